@@ -1,6 +1,6 @@
 -- Comparing byte by byte.
 use mathlib.Core.Path.{_≡_, refl, sym, ap, _∙_}
-use Prim.Native.Nat.{ℕ, zero, suc, _+_, _≤_, _<_}
+use Prim.Native.Nat.{ℕ, suc, _+_, _≤_, _<_}
 use native.Mathlib.Nat.{le-of-suc-le-suc, not-suc-le-zero}
 use native.Mathlib.Numerals.{add-one}
 use native.Mathlib.Omega.{arith}

@@ -1,12 +1,12 @@
 -- A result stored at the start of a buffer, or of the unwritten end of one.
-use mathlib.Core.Path.{_≡_, refl, sym, ap, _∙_}
+use mathlib.Core.Path.{_≡_, sym}
 use mathlib.Core.List.{List, [], _∷_, _++_, append-assoc, append-nil}
-use Prim.Native.Nat.{ℕ, zero, suc, _+_, _-_, _≤_, _<_}
+use Prim.Native.Nat.{ℕ, suc, _+_, _-_, _≤_, _<_}
 use native.Mathlib.Nat.{add-zero, add-suc, suc-add, zero-add}
 use native.Mathlib.Omega.{arith}
 use native.Mathlib.Numerals.{add-one}
-use lib.ListN.{length, getD, take, drop, set, length-drop, length-append, length-set, drop-of-length-le}
-use lib.Seq.{sets, sets-eq, take-all, drop-drop, take-suc, length-take-le, length-sets}
+use lib.ListN.{length, getD, take, drop, set, length-drop, drop-of-length-le}
+use lib.Seq.{sets, sets-eq, take-all, drop-drop, take-suc, length-take-le}
 use borrow.Author.Tests.{le-leb, lt-leb}
 use Rattle.slices.specs.Store.{stored}
 

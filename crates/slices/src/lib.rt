@@ -1,7 +1,7 @@
 // Slices of bytes: searched, compared, and written at their start.
 ghost use mathlib.Core.Path.{_≡_};
 ghost use Prim.Native.Nat.{_+_, _≤_};
-ghost use lib.ListN.{length};
+ghost use lib.ListN.{length, take, drop};
 ghost use Rattle.slices.specs.Split.{split, indexOf};
 ghost use Rattle.slices.specs.Compare.{sameBytes, beginsWith};
 ghost use Rattle.slices.specs.Store.{stored};
@@ -33,6 +33,19 @@ pub fn count(s: &[u8], b: u8) -> usize
         i += 1;
     }
     n + 1
+}
+
+// The piece of s that a span, an offset and a length, names; it ends where s ends.
+pub fn piece(s: &[u8], at: usize, len: usize) -> &[u8]
+    ensures { λ r. ⌜ now r ≡ take len (drop at (now (s .entry))) ⌝ }
+{
+    if s.len() < at {
+        return &s[..0];
+    }
+    if s.len() - at < len {
+        return &s[at..];
+    }
+    &s[at..at + len]
 }
 
 // Whether s begins with p.

@@ -1,12 +1,11 @@
-use mathlib.Core.Path.{_≡_, refl, sym}
-use Prim.Native.Nat.{_+_, _-_, _≤_}
+-- `begins` meets its contract. Assumes nothing.
+use mathlib.Core.Path.{refl, sym}
+use Prim.Native.Nat.{_-_}
 use native.Mathlib.Omega.{arith}
 use lib.ListN.{length}
 use Rattle.slices.proofs.CompareLaws.{begins-short, Begins, begins-turn, begins-not, begins-past}
 use Rattle.slices.proofs.begins.Statement.{statement}
 use Rattle.slices.proofs.begins.Tie as tie
-use Rattle.slices.proofs.begins.Reads as reads
-use Rattle.slices.proofs.begins.Lts as lts
 
 abbrev Inv-loop : tie.InvT-loop
 Inv-loop s p i₀ i = Begins p s i
@@ -14,39 +13,30 @@ Inv-loop s p i₀ i = Begins p s i
 abbrev μ-loop : tie.MeasureT-loop
 μ-loop s p i₀ i = length p - i
 
--- src/lib.rt:43:9
 returns : tie.Need-returns Inv-loop μ-loop
 returns c = sym (begins-short _ _ (c .if1 .taken))
 
--- src/lib.rt:46:5
 loop-holds : tie.Need-loop-holds Inv-loop μ-loop
 loop-holds c = record { high = omega arith; same = refl }
 
--- src/lib.rt:47:12
 shared-slice-read-if2 : tie.Need-shared-slice-read-if2 Inv-loop μ-loop
 shared-slice-read-if2 c = omega arith
 
--- src/lib.rt:47:20
 shared-slice-read-if2-2 : tie.Need-shared-slice-read-if2-2 Inv-loop μ-loop
 shared-slice-read-if2-2 c = omega arith
 
--- src/lib.rt:48:13
 returns-2 : tie.Need-returns-2 Inv-loop μ-loop
 returns-2 c = begins-not (c .before .before .before .before .loop .inv) (c .before .before .before .before .before .if1 .left) (c .before .before .before .loop-test .taken) (c .if2 .taken)
 
--- src/lib.rt:50:9
 add-i : tie.Need-add-i Inv-loop μ-loop
 add-i c = omega arith
 
--- src/lib.rt:46:5
 loop-less : tie.Need-loop-less Inv-loop μ-loop
 loop-less c = omega arith
 
--- src/lib.rt:46:5
 loop-again : tie.Need-loop-again Inv-loop μ-loop
 loop-again c = begins-turn (c .before .before .before .before .loop .inv) (c .before .before .before .before .before .if1 .left) (c .before .before .before .loop-test .taken) (c .if2 .left)
 
--- src/lib.rt:39:1
 returns-3 : tie.Need-returns-3 Inv-loop μ-loop
 returns-3 c = begins-past (c .before .loop .inv) (c .before .before .if1 .left) (c .loop-test .left)
 

@@ -1,3 +1,4 @@
+-- `count` meets its contract. Assumes nothing.
 use mathlib.Core.Logic.{⊎-elim}
 use Prim.Native.Nat.{_-_}
 use native.Mathlib.Omega.{arith}
@@ -5,8 +6,6 @@ use lib.ListN.{length}
 use Rattle.slices.proofs.SearchLaws.{Count, count-first, count-hit, count-miss, count-past}
 use Rattle.slices.proofs.count.Statement.{statement}
 use Rattle.slices.proofs.count.Tie as tie
-use Rattle.slices.proofs.count.Reads as reads
-use Rattle.slices.proofs.count.Lts as lts
 
 abbrev Inv-loop : tie.InvT-loop
 Inv-loop s b n₀ i₀ n i = Count s b n i
@@ -14,38 +13,30 @@ Inv-loop s b n₀ i₀ n i = Count s b n i
 abbrev μ-loop : tie.MeasureT-loop
 μ-loop s b n₀ i₀ n i = length s - i
 
--- src/lib.rt:29:5
 loop-holds : tie.Need-loop-holds Inv-loop μ-loop
 loop-holds c = count-first
 
--- src/lib.rt:30:12
 shared-slice-read-if1 : tie.Need-shared-slice-read-if1 Inv-loop μ-loop
 shared-slice-read-if1 c = omega arith
 
--- src/lib.rt:31:13
 add-n : tie.Need-add-n Inv-loop μ-loop
 add-n c = omega arith
 
--- src/lib.rt:33:9
 add-i : tie.Need-add-i Inv-loop μ-loop
 add-i c = omega arith
 
--- src/lib.rt:29:5
 loop-less : tie.Need-loop-less Inv-loop μ-loop
 loop-less c = omega arith
 
--- src/lib.rt:29:5
 loop-again : tie.Need-loop-again Inv-loop μ-loop
 loop-again c =
     ⊎-elim (λ w. rw (w .1) (count-hit (c .before .before .before .loop .inv) (c .before .before .loop-test .taken) (w .0 .taken)))
     (λ w. rw (w .1) (count-miss (c .before .before .before .loop .inv) (c .before .before .loop-test .taken) (w .0 .left)))
     (c .if1 .came)
 
--- src/lib.rt:35:5
 add-result : tie.Need-add-result Inv-loop μ-loop
 add-result c = omega arith
 
--- src/lib.rt:24:1
 returns : tie.Need-returns Inv-loop μ-loop
 returns c = count-past (c .before .loop .inv) (c .loop-test .left)
 

@@ -1,11 +1,10 @@
+-- `find` meets its contract. Assumes nothing.
 use Prim.Native.Nat.{_-_}
 use native.Mathlib.Omega.{arith}
 use lib.ListN.{length}
 use Rattle.slices.proofs.SearchLaws.{Find, find-first, find-turn, find-done, find-past}
 use Rattle.slices.proofs.find.Statement.{statement}
 use Rattle.slices.proofs.find.Tie as tie
-use Rattle.slices.proofs.find.Reads as reads
-use Rattle.slices.proofs.find.Lts as lts
 
 abbrev Inv-loop : tie.InvT-loop
 Inv-loop s b i₀ i = Find s b i
@@ -13,31 +12,24 @@ Inv-loop s b i₀ i = Find s b i
 abbrev μ-loop : tie.MeasureT-loop
 μ-loop s b i₀ i = length s - i
 
--- src/lib.rt:14:5
 loop-holds : tie.Need-loop-holds Inv-loop μ-loop
 loop-holds c = find-first
 
--- src/lib.rt:15:12
 shared-slice-read-if1 : tie.Need-shared-slice-read-if1 Inv-loop μ-loop
 shared-slice-read-if1 c = omega arith
 
--- src/lib.rt:16:13
 returns : tie.Need-returns Inv-loop μ-loop
 returns c = find-done (c .before .before .before .loop .inv) (c .before .before .loop-test .taken) (c .if1 .taken)
 
--- src/lib.rt:18:9
 add-i : tie.Need-add-i Inv-loop μ-loop
 add-i c = omega arith
 
--- src/lib.rt:14:5
 loop-less : tie.Need-loop-less Inv-loop μ-loop
 loop-less c = omega arith
 
--- src/lib.rt:14:5
 loop-again : tie.Need-loop-again Inv-loop μ-loop
 loop-again c = find-turn (c .before .before .before .loop .inv) (c .before .before .loop-test .taken) (c .if1 .left)
 
--- src/lib.rt:10:1
 returns-2 : tie.Need-returns-2 Inv-loop μ-loop
 returns-2 c = find-past (c .before .loop .inv) (c .loop-test .left)
 

@@ -1,21 +1,16 @@
+-- `same` meets its contract. Assumes nothing.
 use mathlib.Core.Path.{sym, _∙_}
 use Rattle.slices.proofs.CompareLaws.{same-short, same-begins}
 use borrow.Author.Needs.{needs}
 use Rattle.slices.proofs.same.Statement.{statement}
 use Rattle.slices.proofs.same.Tie as tie
-use Rattle.slices.proofs.same.Reads as reads
-use Rattle.slices.proofs.same.Lts as lts
-use Rattle.slices.proofs.begins.Reads as begins-reads
 
--- src/lib.rt:60:9
 returns : tie.Need-returns
 returns c = sym (same-short _ _ (c .if1 .taken))
 
--- src/lib.rt:62:5
 begins-requires : tie.Need-begins-requires
 begins-requires c κs = search needs
 
--- src/lib.rt:56:1
 returns-2 : tie.Need-returns-2
 returns-2 c = c .begins .ensures ∙ sym (same-begins _ _ (c .before .if1 .left))
 
