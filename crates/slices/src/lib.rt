@@ -1,8 +1,8 @@
 // Slices of bytes: searched, compared, and written at their start.
 ghost use mathlib.Core.Path.{_≡_};
 ghost use Prim.Native.Nat.{_+_, _≤_};
-ghost use lib.ListN.{length, take, drop};
-ghost use Rattle.slices.specs.Split.{split, indexOf};
+ghost use lib.ListN.{length};
+ghost use Rattle.slices.specs.Split.{split, indexOf, pieceAt};
 ghost use Rattle.slices.specs.Compare.{sameBytes, beginsWith};
 ghost use Rattle.slices.specs.Store.{stored};
 
@@ -37,7 +37,7 @@ pub fn count(s: &[u8], b: u8) -> usize
 
 // The piece of s that a span, an offset and a length, names; it ends where s ends.
 pub fn piece(s: &[u8], at: usize, len: usize) -> &[u8]
-    ensures { λ r. ⌜ now r ≡ take len (drop at (now (s .entry))) ⌝ }
+    ensures { λ r. ⌜ now r ≡ pieceAt (now (s .entry)) at len ⌝ }
 {
     if s.len() < at {
         return &s[..0];

@@ -1,0 +1,44 @@
+-- The pieces of a text: by the index at which each ends, and by offset and length.
+use mathlib.Core.Path.{_≡_, sym}
+use Prim.Native.Nat.{ℕ, suc, _+_, _-_, _≤_, _<_}
+use native.Mathlib.Nat.{add-zero}
+use native.Mathlib.Omega.{arith}
+use mathlib.Core.List.{List, [], _∷_}
+use mathlib.Core.Bool.{Bool, true, false, cond}
+use lib.Dec.{eqb}
+use lib.ListN.{length, take, drop, length-drop, drop-of-length-le}
+use lib.Seq.{take-all}
+use Rattle.slices.specs.Split.{pieces, indexOf}
+use Rattle.slices.proofs.SplitLaws.{next-piece, index-more, index-none}
+use Rattle.lines.specs.Lines.{pieceEnd}
+
+index-high : (b : ℕ) (s : List ℕ) → indexOf b s ≤ length s
+index-high b [] = omega (arith, index-none b)
+index-high b (x ∷ xs) = rw (index-more b x xs) (go (eqb x b) (index-high b xs))
+  where
+    go : (t : Bool) → indexOf b xs ≤ length xs → cond t 0 (suc (indexOf b xs)) ≤ suc (length xs)
+    go true h = omega arith
+    go false h = omega arith
+
+-- the piece from `from` to e, and the pieces behind it
+pub record Piece (b : ℕ) (s : List ℕ) (from e : ℕ) : Type 0 where
+  pub low : from ≤ e
+  pub high : e ≤ length s
+  pub here : pieces b from s ≡ take (e - from) (drop from s) ∷ pieces b (e + 1) s
+
+-- a loop over the pieces: the one that begins at `from`
+pub piece-at : {b : ℕ} {s : List ℕ} {from e : ℕ} → from ≤ length s → e ≡ pieceEnd b s from → Piece b s from e
+piece-at {b} {s} {from} {e} h at = record {
+  low = omega arith;
+  high = omega (arith, index-high b (drop from s), length-drop from s);
+  here = next-piece b from e s h at;
+}
+
+-- the part of a slice from an index on
+pub rest : (s : List ℕ) (from : ℕ) → take (length s - from) (drop from s) ≡ drop from s
+rest s from = take-all (length s - from) (drop from s) (omega (arith, length-drop from s))
+
+pub end-past : (b : ℕ) (s : List ℕ) (from : ℕ) → length s < from → from ≡ pieceEnd b s from
+end-past b s from h =
+    let none : drop from s ≡ [] = drop-of-length-le s {i = from} (omega arith) in
+    sym (rw (none, index-none b, add-zero from))
