@@ -1,0 +1,2 @@
+-- The names shown for the parts.
+pub mod Names

@@ -1,0 +1,2 @@
+-- The table of notices.
+pub mod Table
