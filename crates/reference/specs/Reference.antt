@@ -1,9 +1,10 @@
 -- A reference record behind its `!!!`.
 use Prim.Native.Nat.{ℕ, _+_}
 use mathlib.Core.Bool.{cond}
-use mathlib.Core.List.{List, [], _∷_}
+use mathlib.Core.List.{List}
 use lib.ListN.{length, take, drop}
 use Rattle.slices.specs.Split.{indexOf}
+use Rattle.slices.specs.Ascii.{ascii}
 use Rattle.slices.specs.Compare.{sameBytes}
 use Rattle.reference.specs.Trim.{trimmed, trimmedAt}
 use Rattle.reference.specs.declared.Key.{Key}
@@ -14,9 +15,9 @@ use Rattle.reference.specs.declared.Reference.{Reference}
 -- document 01, "Reading a record": OTL, COM, LYR set title, composer, lyricist
 unfoldable pub keyOf : List ℕ → Key
 keyOf k =
-    cond (sameBytes (79 ∷ 84 ∷ 76 ∷ []) k) Title
-    (cond (sameBytes (67 ∷ 79 ∷ 77 ∷ []) k) Composer
-    (cond (sameBytes (76 ∷ 89 ∷ 82 ∷ []) k) Lyricist
+    cond (sameBytes (ascii "OTL") k) Title
+    (cond (sameBytes (ascii "COM") k) Composer
+    (cond (sameBytes (ascii "LYR") k) Lyricist
     Other))
 
 -- the bytes before the first `:` (58), all of them where there is none
