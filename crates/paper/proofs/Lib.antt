@@ -1,0 +1,2 @@
+-- The one fact over document 01's worked lines.
+pub mod Worked

@@ -1,0 +1,16 @@
+-- Document 01's worked lines hold: one computed fact over the whole table.
+use lib.Dec.{T}
+use Rattle.slices.specs.Split.{split, join, indexOf}
+use Rattle.slices.specs.Compare.{sameBytes}
+use Rattle.duration.specs.Duration.{durationOf, counts, digits, numberFrom, written, writtenAt, exponentOf, gcdIn}
+use Rattle.pitch.specs.Pitch.{pitchOf, lowerPitch, upperPitch, lowerCase, upperCase, within}
+use Rattle.paths.specs.Token.{pathToken}
+use Rattle.paths.specs.Row.{branchFrom, advance}
+use Rattle.paths.specs.Voices.{stepRow, voiceRow, giveVoices, holds, lowest, withVoice}
+use Rattle.notation.specs.Search.{contains}
+use Rattle.interpretation.specs.Interpretation.{computed}
+use Rattle.paper.specs.Table.{each, table}
+
+pub worked : T (each table)
+unfolding table sameBytes split join durationOf counts digits numberFrom written writtenAt exponentOf gcdIn pitchOf lowerPitch upperPitch lowerCase upperCase within indexOf pathToken advance branchFrom stepRow voiceRow giveVoices holds lowest withVoice contains computed
+worked = tt
