@@ -1,0 +1,91 @@
+//! Our reader beside the published one.
+mod leaves;
+mod source;
+
+use leaves::Case;
+use std::io::{Read, Write};
+use std::process::{Command, ExitCode, Stdio};
+
+/// The program's answers to requests of at most 65,000 bytes together.
+fn ask(program: &str, requests: &[&Case]) -> Vec<Vec<u8>> {
+    let mut child = Command::new(program).stdin(Stdio::piped()).stdout(Stdio::piped()).spawn().expect("the program starts");
+    let mut stdin = child.stdin.take().unwrap();
+    let input: Vec<u8> = requests.iter().flat_map(|c| [c.request.as_slice(), b"\n"].concat()).collect();
+    let writer = std::thread::spawn(move || stdin.write_all(&input));
+    let mut output = Vec::new();
+    child.stdout.take().unwrap().read_to_end(&mut output).unwrap();
+    writer.join().unwrap().unwrap();
+    child.wait().unwrap();
+    output.split(|b| *b == b'\n').map(<[u8]>::to_vec).collect()
+}
+
+fn shown(bytes: &[u8]) -> String {
+    String::from_utf8_lossy(bytes).escape_debug().to_string()
+}
+
+/// Asks the program every case of every leaf, and says how many answers differ.
+fn compare_leaves(program: &str) -> ExitCode {
+    let mut different = 0;
+    for (name, cases) in leaves::all() {
+        let mut wrong = 0;
+        let mut rest: Vec<&Case> = cases.iter().collect();
+        while !rest.is_empty() {
+            let mut size = 0;
+            let many = rest.iter().take_while(|c| { size += c.request.len() + 1; size <= 65_000 }).count();
+            let chunk: Vec<&Case> = rest.drain(..many).collect();
+            let answers = ask(program, &chunk);
+            for (index, case) in chunk.iter().enumerate() {
+                let answer = answers.get(index).map_or(&b"(none)"[..], |a| a);
+                if answer != case.answer {
+                    wrong += 1;
+                    if wrong <= 5 {
+                        println!("  {} : ours {}, the source {}", shown(&case.request), shown(answer), shown(&case.answer));
+                    }
+                }
+            }
+        }
+        println!("{name}: {} cases, {wrong} different", cases.len());
+        different += wrong;
+    }
+    if different == 0 { ExitCode::SUCCESS } else { ExitCode::FAILURE }
+}
+
+/// Requests that the replayed list has besides those that are spread over all: document 01's lines that are not marked P, and both edges of rules.
+const PICKED: [&str; 40] = [
+    "I*M4/+4", "I*M0/4", "I*M255/128", "I*M256/4", "I*M4/3", "I*M004/08", "I*M4", "I*M+4/4", "I*MM119.5", "I*MM119.49", "I*MM65534.5", "I*MM65535.1", "I*MM0.9",
+    "I*clefG2", "I*clefGv2", "I*clefC4", "I*clefX", "J*clefG2", "I*k[]", "I*k[f#f#]", "I*k[b-b-b-]", "I*k[##]", "I*k[", "I*met(c)", "I*met(c|)", "I*met(o)",
+    "I*G:", "I*e:", "I*abcd:", "I*I\"a", "I*I'a", "I*", "D255", "D256", "D0", "D00", "D000", "D12", "D0008", "D00008",
+];
+
+/// A sample of every leaf's cases: the requests into one file, the source's answers into another.
+fn sample(requests: &str, answers: &str) -> ExitCode {
+    let (mut input, mut output) = (Vec::new(), Vec::new());
+    for (_, cases) in leaves::all() {
+        // every case of a small leaf, else about 90 spread over all
+        let step = cases.len().div_ceil(90);
+        for (index, case) in cases.iter().enumerate() {
+            let picked = PICKED.iter().any(|p| p.as_bytes() == case.request);
+            if (index % step == 0 || picked) && case.request.len() < 200 {
+                input.extend_from_slice(&case.request);
+                input.push(b'\n');
+                output.extend_from_slice(&case.answer);
+                output.push(b'\n');
+            }
+        }
+    }
+    std::fs::write(requests, input).unwrap();
+    std::fs::write(answers, output).unwrap();
+    ExitCode::SUCCESS
+}
+
+fn main() -> ExitCode {
+    let words: Vec<String> = std::env::args().skip(1).collect();
+    match words.iter().map(String::as_str).collect::<Vec<_>>()[..] {
+        ["leaves", program] => compare_leaves(program),
+        ["sample", requests, answers] => sample(requests, answers),
+        _ => {
+            eprintln!("usage: compare leaves PROGRAM | compare sample REQUESTS ANSWERS");
+            ExitCode::from(2)
+        }
+    }
+}

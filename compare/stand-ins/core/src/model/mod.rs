@@ -1,0 +1,4 @@
+pub mod duration;
+pub mod notation;
+pub mod pitch;
+pub mod score;

@@ -1,0 +1,7 @@
+//! The errors that the kern reader gives.
+#[derive(Debug, Clone, PartialEq)]
+pub enum Error {
+    Empty,
+    TooLarge(usize),
+    Xml(String),
+}

@@ -1,0 +1,12 @@
+//! Derives that expand to nothing, for compiling the published source without its serialisation.
+use proc_macro::TokenStream;
+
+#[proc_macro_derive(Serialize, attributes(serde))]
+pub fn serialize(_: TokenStream) -> TokenStream {
+    TokenStream::new()
+}
+
+#[proc_macro_derive(Deserialize, attributes(serde))]
+pub fn deserialize(_: TokenStream) -> TokenStream {
+    TokenStream::new()
+}
