@@ -15,7 +15,7 @@ fn case(kind: u8, body: &[u8], answer: String) -> Case {
 }
 
 /// All strings over an alphabet of `low` to `high` characters.
-fn strings(alphabet: &[&str], low: usize, high: usize) -> Vec<String> {
+pub fn strings(alphabet: &[&str], low: usize, high: usize) -> Vec<String> {
     let mut all = Vec::new();
     let mut level = vec![String::new()];
     for length in 0..=high {

@@ -1,6 +1,8 @@
 //! Our reader beside the published one.
 mod leaves;
+mod rows;
 mod source;
+mod tokens;
 
 use leaves::Case;
 use std::io::{Read, Write};
@@ -23,10 +25,19 @@ fn shown(bytes: &[u8]) -> String {
     String::from_utf8_lossy(bytes).escape_debug().to_string()
 }
 
-/// Asks the program every case of every leaf, and says how many answers differ.
-fn compare_leaves(program: &str) -> ExitCode {
+/// The cases of each kind of request, with a name.
+fn cases_of(kind: &str) -> Vec<(&'static str, Vec<Case>)> {
+    match kind {
+        "rows" => vec![("path records", rows::all())],
+        "tokens" => vec![("note tokens", tokens::all(5))],
+        _ => leaves::all(),
+    }
+}
+
+/// Asks the program every case, and says how many answers differ.
+fn compare(kind: &str, program: &str) -> ExitCode {
     let mut different = 0;
-    for (name, cases) in leaves::all() {
+    for (name, cases) in cases_of(kind) {
         let mut wrong = 0;
         let mut rest: Vec<&Case> = cases.iter().collect();
         while !rest.is_empty() {
@@ -57,12 +68,13 @@ const PICKED: [&str; 40] = [
     "I*G:", "I*e:", "I*abcd:", "I*I\"a", "I*I'a", "I*", "D255", "D256", "D0", "D00", "D000", "D12", "D0008", "D00008",
 ];
 
-/// A sample of every leaf's cases: the requests into one file, the source's answers into another.
-fn sample(requests: &str, answers: &str) -> ExitCode {
+/// A sample of the cases: the requests into one file, the source's answers into another.
+fn sample(kind: &str, requests: &str, answers: &str) -> ExitCode {
     let (mut input, mut output) = (Vec::new(), Vec::new());
-    for (_, cases) in leaves::all() {
-        // every case of a small leaf, else about 90 spread over all
-        let step = cases.len().div_ceil(90);
+    let many = if kind == "leaves" { 90 } else { 600 };
+    for (_, cases) in cases_of(kind) {
+        // every case where there are few, else so many spread over all
+        let step = cases.len().div_ceil(many);
         for (index, case) in cases.iter().enumerate() {
             let picked = PICKED.iter().any(|p| p.as_bytes() == case.request);
             if (index % step == 0 || picked) && case.request.len() < 200 {
@@ -81,10 +93,10 @@ fn sample(requests: &str, answers: &str) -> ExitCode {
 fn main() -> ExitCode {
     let words: Vec<String> = std::env::args().skip(1).collect();
     match words.iter().map(String::as_str).collect::<Vec<_>>()[..] {
-        ["leaves", program] => compare_leaves(program),
-        ["sample", requests, answers] => sample(requests, answers),
+        ["run", kind @ ("leaves" | "rows" | "tokens"), program] => compare(kind, program),
+        ["sample", kind @ ("leaves" | "rows" | "tokens"), requests, answers] => sample(kind, requests, answers),
         _ => {
-            eprintln!("usage: compare leaves PROGRAM | compare sample REQUESTS ANSWERS");
+            eprintln!("usage: compare run leaves|rows|tokens PROGRAM | compare sample leaves|rows|tokens REQUESTS ANSWERS");
             ExitCode::from(2)
         }
     }

@@ -1,19 +1,18 @@
 -- Document 01, "Both edges, with P for proved": its worked lines, one table and one fact over it.
-use Prim.Native.Nat.{ℕ, _*_}
+use Prim.Native.Nat.{ℕ}
 use Prim.Native.String.{String}
 use mathlib.Core.Bool.{Bool, true, false, cond, _&&_}
-use mathlib.Core.List.{List, [], _∷_, map}
-use mathlib.Core.Option.{none}
-use lib.ListN.{length, getD}
+use mathlib.Core.List.{List, [], _∷_, _++_, map}
 use Rattle.slices.specs.Ascii.{ascii}
 use Rattle.slices.specs.Split.{split}
 use Rattle.slices.specs.Compare.{sameBytes}
-use Rattle.duration.specs.Duration.{durationOf, digits, written}
+use Rattle.duration.specs.Duration.{durationOf}
 use Rattle.duration.specs.declared.Value.{Value}
 use Rattle.duration.specs.declared.Value.the-variants.{Missing, Plain, Tuplet}
-use Rattle.pitch.specs.Pitch.{pitchOf}
-use Rattle.pitch.specs.declared.Pitch.{Pitch}
-use Rattle.pitch.specs.declared.Pitch.the-variants.{At, Outside}
+use Rattle.token.specs.Outcome.{readToken, reported, notePitches}
+use Rattle.token.specs.declared.pitches.Tone.{Tone}
+use Rattle.token.specs.declared.outcome.Outcome.{Outcome as Reading}
+use Rattle.token.specs.declared.outcome.Outcome.the-variants.{Silent, Unread, Heard}
 use Rattle.paths.specs.declared.PathToken.{PathToken}
 use Rattle.paths.specs.Token.{pathToken}
 use Rattle.paths.specs.Row.{Spine, line, branch, outside}
@@ -28,8 +27,8 @@ use Rattle.interpretation.specs.declared.Interpretation.the-variants.{Nothing, 
 pub data Line : Type 0 where
   -- digits: written value, actual, normal (0, 0 no tuplet); nothing where there is no value
   reciprocal : String → List ℕ → Line
-  -- a run of one letter: its octave; nothing where it is outside 0 to 9
-  octave : String → List ℕ → Line
+  -- a note token: its notices, then 100 and the octaves of its pitches where it gives a note
+  note : String → List ℕ → Line
   -- the voices of a part's lines, and a star record: the voices of the next row by place; 8 and the part where it is refused
   voices : List ℕ → String → List ℕ → Line
   -- a note token in a voice whose beam is not held: its beam, and 1 where the beam is held after it
@@ -42,9 +41,18 @@ ofValue Missing = []
 ofValue (Plain v) = v ∷ 0 ∷ 0 ∷ []
 ofValue (Tuplet v actual normal) = v ∷ actual ∷ normal ∷ []
 
-abbrev ofPitch : Pitch → List ℕ
-ofPitch (At s o) = o ∷ []
-ofPitch Outside = []
+-- "17 signifiers", where there are any
+abbrev ofSignifiers : List ℕ → List ℕ
+ofSignifiers [] = []
+ofSignifiers (b ∷ bs) = 17 ∷ []
+
+abbrev octaveOf : Tone → ℕ
+octaveOf t = t .octave
+
+abbrev ofToken : List ℕ → Reading → List ℕ
+ofToken token Silent = []
+ofToken token (Unread n) = n ∷ []
+ofToken token (Heard n) = 100 ∷ map octaveOf (notePitches token)
 
 abbrev ofSpine : Spine → ℕ
 ofSpine (line p v) = v
@@ -78,14 +86,14 @@ record-of text = map pathToken (split 32 (ascii text))
 -- what the definitions give for a line
 abbrev given : Line → List ℕ
 given (reciprocal text _) = ofValue (durationOf (ascii text))
-given (octave run _) = ofPitch (pitchOf (getD (ascii run) 0 0) (length (ascii run)))
+given (note text _) = ofSignifiers (reported (ascii text)) ++ ofToken (ascii text) (readToken (ascii text) [])
 given (voices held text _) = ofOutcome (stepRow (map (line 0) held) (record-of text))
 given (beam text _) = ofBeam (beamed false (lettersOf (ascii text) .starts) (lettersOf (ascii text) .ends))
 given (tempo text _) = ofTempo (interpretationOf (ascii text) false)
 
 abbrev expected : Line → List ℕ
 expected (reciprocal _ said) = said
-expected (octave _ said) = said
+expected (note _ said) = said
 expected (voices _ _ said) = said
 expected (beam _ said) = said
 expected (tempo _ said) = said
@@ -106,11 +114,11 @@ table =
     ∷ reciprocal "000" []
     ∷ reciprocal "00008" []
     ∷ reciprocal "0008" (5 ∷ 0 ∷ 0 ∷ [])
-    -- "six `c` octave 9, seven ..; four `C` octave 0, five .."
-    ∷ octave "cccccc" (9 ∷ [])
-    ∷ octave "ccccccc" []
-    ∷ octave "CCCC" (0 ∷ [])
-    ∷ octave "CCCCC" []
+    -- "six `c` octave 9, seven notices 17 and 18; four `C` octave 0, five 17 and 18"
+    ∷ note "4cccccc" (100 ∷ 9 ∷ [])
+    ∷ note "4ccccccc" (17 ∷ 18 ∷ [])
+    ∷ note "4CCCC" (100 ∷ 0 ∷ [])
+    ∷ note "4CCCCC" (17 ∷ 18 ∷ [])
     -- "voices 0 1 2 3 with `*^ *v *v *`: branch gets 2; with `*^ * * *`: 8"
     ∷ voices (0 ∷ 1 ∷ 2 ∷ 3 ∷ []) "*^ *v *v *" (0 ∷ 2 ∷ 1 ∷ 3 ∷ [])
     ∷ voices (0 ∷ 1 ∷ 2 ∷ 3 ∷ []) "*^ * * *" (8 ∷ 0 ∷ [])

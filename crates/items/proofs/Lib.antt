@@ -1,0 +1,3 @@
+-- Laws about the items of a token.
+pub mod RunLaws
+pub mod ItemLaws

@@ -1,0 +1,4 @@
+-- Laws about the lists of a token.
+pub mod FillLaws
+pub mod ItemLaws
+pub mod CountLaws

@@ -1,0 +1,2 @@
+-- The lists of a token as the sheet's bytes.
+pub mod Lists

@@ -1,0 +1,5 @@
+-- Laws about the neighbours of a token.
+pub mod OfferLaws
+pub mod TallyLaws
+pub mod MeetLaws
+pub mod Examples

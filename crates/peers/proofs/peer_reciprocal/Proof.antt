@@ -1,0 +1,77 @@
+-- The neighbours met, carried on over the columns left, give what all give from the start.
+use Prim.Native.Nat.{_-_}
+use native.Mathlib.Omega.{arith}
+use lib.ListN.{length}
+use borrow.Author.Needs.{needs}
+use Rattle.peers.proofs.MeetLaws.{Passing, pass-first, pass-turn, line-past, row-past, end-low}
+use Rattle.peers.proofs.peer_reciprocal.Statement.{statement}
+use Rattle.peers.proofs.peer_reciprocal.Tie as tie
+
+abbrev Inv-loop : tie.InvT-loop
+Inv-loop line row column found₀ from₀ i₀ found from i = Passing line row column from i found
+
+abbrev μ-loop : tie.MeasureT-loop
+μ-loop line row column found₀ from₀ i₀ found from i = length row - i
+
+loop-holds : tie.Need-loop-holds Inv-loop μ-loop
+loop-holds c = pass-first
+
+settle-requires : tie.Need-settle-requires Inv-loop μ-loop
+settle-requires c κs = search needs
+
+returns : tie.Need-returns Inv-loop μ-loop
+returns c = line-past (c .before .before .before .loop .inv) (c .before .if1 .taken) (c .settle .ensures)
+
+token-end-requires : tie.Need-token-end-requires Inv-loop μ-loop
+token-end-requires c κs = search needs
+
+sub-pass : tie.Need-sub-pass Inv-loop μ-loop
+sub-pass c = let e = end-low _ _ _ (c .before .if1 .left) (c .token-end .ensures) in omega arith
+
+mul-pass : tie.Need-mul-pass Inv-loop μ-loop
+mul-pass c = omega arith
+
+shared-slice-read-pass : tie.Need-shared-slice-read-pass Inv-loop μ-loop
+shared-slice-read-pass c = omega arith
+
+pass-requires : tie.Need-pass-requires Inv-loop μ-loop
+pass-requires c κs = search needs
+
+add-from : tie.Need-add-from Inv-loop μ-loop
+add-from c = let e = end-low _ _ _ (c .before .before .before .if1 .left) (c .before .before .token-end .ensures) in omega arith
+
+add-i : tie.Need-add-i Inv-loop μ-loop
+add-i c = omega arith
+
+loop-less : tie.Need-loop-less Inv-loop μ-loop
+loop-less c = omega arith
+
+loop-again : tie.Need-loop-again Inv-loop μ-loop
+loop-again c = pass-turn (c .before .before .before .before .before .loop .inv) (c .before .before .before .before .loop-test .taken) (c .before .before .before .if1 .left) (c .before .before .token-end .ensures) (c .pass .ensures)
+
+settle-requires-2 : tie.Need-settle-requires-2 Inv-loop μ-loop
+settle-requires-2 c κs = search needs
+
+returns-2 : tie.Need-returns-2 Inv-loop μ-loop
+returns-2 c = row-past (c .before .before .loop .inv) (c .before .loop-test .left) (c .settle2 .ensures)
+
+pub peer-reciprocal-spec : {M : Type 1} → statement M
+peer-reciprocal-spec =
+    tie.close
+    (tie.spec
+    Inv-loop
+    μ-loop
+    loop-holds
+    settle-requires
+    returns
+    token-end-requires
+    sub-pass
+    mul-pass
+    shared-slice-read-pass
+    pass-requires
+    add-from
+    add-i
+    loop-less
+    loop-again
+    settle-requires-2
+    returns-2)

@@ -1,0 +1,2 @@
+-- The length that a token without one takes from its record.
+pub mod Peers

@@ -1,0 +1,4 @@
+-- Laws about the definitions of specs/, for the proofs here and above. No contract cites these.
+pub mod CellLaws
+pub mod WalkLaws
+pub mod RecordLaws

@@ -1,0 +1,145 @@
+// The row of spines, and its next row by the path tokens of a record.
+use paths::PathToken;
+ghost use mathlib.Core.Path.{_≡_};
+ghost use Prim.Native.Nat.{min, _*_, _≤_};
+ghost use lib.ListN.{length, getD, take};
+ghost use Rattle.paths.specs.Token.{isExchange};
+ghost use Rattle.paths.specs.Row.{nextRow};
+ghost use Rattle.spines.specs.Cells.{rowOf};
+ghost use Rattle.spines.specs.Tokens.{recordTokens, Ahead};
+ghost use Rattle.spines.specs.Emit.{modeOf, behindJoin, Emitted};
+
+// What stands to the left of a column: nothing that matters, a `*v`, or the left one of two that exchange.
+enum Left {
+    Nothing,
+    Joined,
+    Exchanged,
+}
+
+// What a token gives: how many of two cells, the cells, and what then stands to the left.
+struct Emission(usize, u16, u16, Left);
+
+// A token, and where the next one begins.
+struct Token(PathToken, usize);
+
+// n, but at most top.
+pub fn at_most(n: usize, top: usize) -> usize
+    ensures { λ r. ⌜ r ≡ min n top ⌝ }
+{
+    if n < top { n } else { top }
+}
+
+// s[i], or d past the end.
+fn at_or(s: &[u16], i: usize, d: u16) -> u16
+    ensures { λ r. ⌜ r ≡ getD (now (s .entry)) i d ⌝ }
+{
+    if i < s.len() { s[i] } else { d }
+}
+
+// Whether a token is `*x`.
+fn is_exchange(t: PathToken) -> bool
+    ensures { λ r. ⌜ r ≡ isExchange t ⌝ }
+{
+    match t {
+        PathToken::Exchange => true,
+        PathToken::Split => false,
+        PathToken::Join => false,
+        PathToken::End => false,
+        PathToken::Add => false,
+        PathToken::Other => false,
+    }
+}
+
+// The token that begins at `from`, where n are still wanted; an ordinary one where the line has none left.
+fn token_at(line: &[u8], from: usize, n: usize) -> Token
+    ensures { λ r. ⌜ Ahead (now (line .entry)) from n (r .0) (r .1) ⌝ }
+{
+    if n == 0 {
+        return Token(PathToken::Other, from);
+    }
+    if line.len() < from {
+        return Token(PathToken::Other, from);
+    }
+    let end = lines::token_end(line, from);
+    Token(paths::path_token(&line[from..end]), end + 1)
+}
+
+// What a token gives that isn't the right one of two that exchange: c is its spine's cell, and d the cell to the right.
+fn emit_token(joining: bool, t: PathToken, pair: bool, b: u16, c: u16, d: u16) -> Emission
+    ensures { λ r. ⌜ Emitted (behindJoin joining) t pair b c d (r .0) (r .1) (r .2) (r .3) ⌝ }
+{
+    match t {
+        PathToken::Split => Emission(2, c, c / 8 * 8 + 4, Left::Nothing),
+        PathToken::Join => {
+            if joining {
+                return Emission(0, 0, 0, Left::Joined);
+            }
+            Emission(1, c, 0, Left::Joined)
+        }
+        PathToken::Exchange => {
+            if pair {
+                return Emission(1, d, 0, Left::Exchanged);
+            }
+            Emission(1, c, 0, Left::Nothing)
+        }
+        PathToken::End => Emission(0, 0, 0, Left::Nothing),
+        PathToken::Add => Emission(2, c, 0, Left::Nothing),
+        PathToken::Other => Emission(1, c, 0, Left::Nothing),
+    }
+}
+
+// What any token gives: b is the cell to the left.
+fn emit(left: Left, t: PathToken, pair: bool, b: u16, c: u16, d: u16) -> Emission
+    ensures { λ r. ⌜ Emitted (modeOf left) t pair b c d (r .0) (r .1) (r .2) (r .3) ⌝ }
+{
+    match left {
+        Left::Nothing => emit_token(false, t, pair, b, c, d),
+        Left::Joined => emit_token(true, t, pair, b, c, d),
+        Left::Exchanged => Emission(1, b, 0, Left::Nothing),
+    }
+}
+
+// The next row of a row, its branches still without a voice: one pass over the tokens, with one token of look-ahead.
+fn walk_row(line: &[u8], row: &[u16], next: &mut [u16]) -> usize
+    requires { ⌜ 2 * length (now row) ≤ length (now next) ⌝ }
+    ensures { λ r. ⌜ (rowOf (take r (now (next .exit))) ≡ nextRow (recordTokens (length (now (row .entry))) (now (line .entry))) (rowOf (now (row .entry)))) × (r ≤ 2 * length (now (row .entry))) ⌝ }
+{
+    let first = token_at(line, 0, row.len());
+    let mut t = first.0;
+    let mut from = first.1;
+    let mut left = Left::Nothing;
+    let mut b: u16 = 0;
+    let mut n = 0;
+    let mut i = 0;
+    while i < row.len() {
+        let c = row[i];
+        i += 1;
+        let ahead = token_at(line, from, row.len() - i);
+        let look = ahead.0;
+        let e = emit(left, t, is_exchange(look), b, c, at_or(row, i, c));
+        next[n] = e.1;
+        next[n + 1] = e.2;
+        n += e.0;
+        left = e.3;
+        b = c;
+        t = look;
+        from = ahead.1;
+    }
+    n
+}
+
+// The same of arrays of 512 cells, of which the first `active`, at most 256, are the row.
+fn next_row_of(line: &[u8], row: &[u16], active: usize, next: &mut [u16]) -> usize
+    requires { ⌜ (length (now row) ≡ 512) × (length (now next) ≡ 512) ⌝ }
+    ensures { λ r. ⌜ (rowOf (take r (now (next .exit))) ≡ nextRow (recordTokens (min active 256) (now (line .entry))) (rowOf (take (min active 256) (now (row .entry))))) × (r ≤ 512) ⌝ }
+{
+    let n = at_most(active, 256);
+    walk_row(line, &row[..n], next)
+}
+
+// The next row of the first `active` cells, at most 256, its branches still without a voice: its length, and its cells in `next`.
+pub fn next_row(line: &[u8], row: &[u16; 512], active: usize, next: &mut [u16; 512]) -> usize
+    ensures { λ r. ⌜ (rowOf (take r (now (next .exit))) ≡ nextRow (recordTokens (min active 256) (now (line .entry))) (rowOf (take (min active 256) (now (row .entry))))) × (r ≤ 512) ⌝ }
+{
+    next_row_of(line, row, active, next)
+}
