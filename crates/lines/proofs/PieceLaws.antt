@@ -1,24 +1,14 @@
 -- The pieces of a text: by the index at which each ends, and by offset and length.
 use mathlib.Core.Path.{_≡_, sym}
-use Prim.Native.Nat.{ℕ, suc, _+_, _-_, _≤_, _<_}
+use Prim.Native.Nat.{ℕ, _+_, _-_, _≤_, _<_}
 use native.Mathlib.Nat.{add-zero}
 use native.Mathlib.Omega.{arith}
 use mathlib.Core.List.{List, [], _∷_}
-use mathlib.Core.Bool.{Bool, true, false, cond}
-use lib.Dec.{eqb}
 use lib.ListN.{length, take, drop, length-drop, drop-of-length-le}
 use lib.Seq.{take-all}
-use Rattle.slices.specs.Split.{pieces, indexOf}
-use Rattle.slices.proofs.SplitLaws.{next-piece, index-more, index-none}
+use Rattle.slices.specs.Split.{pieces}
+use Rattle.slices.proofs.SplitLaws.{index-inside, next-piece, index-none}
 use Rattle.lines.specs.Lines.{pieceEnd}
-
-index-high : (b : ℕ) (s : List ℕ) → indexOf b s ≤ length s
-index-high b [] = omega (arith, index-none b)
-index-high b (x ∷ xs) = rw (index-more b x xs) (go (eqb x b) (index-high b xs))
-  where
-    go : (t : Bool) → indexOf b xs ≤ length xs → cond t 0 (suc (indexOf b xs)) ≤ suc (length xs)
-    go true h = omega arith
-    go false h = omega arith
 
 -- the piece from `from` to e, and the pieces behind it
 pub record Piece (b : ℕ) (s : List ℕ) (from e : ℕ) : Type 0 where
@@ -30,7 +20,7 @@ pub record Piece (b : ℕ) (s : List ℕ) (from e : ℕ) : Type 0 where
 pub piece-at : {b : ℕ} {s : List ℕ} {from e : ℕ} → from ≤ length s → e ≡ pieceEnd b s from → Piece b s from e
 piece-at {b} {s} {from} {e} h at = record {
   low = omega arith;
-  high = omega (arith, index-high b (drop from s), length-drop from s);
+  high = omega (arith, index-inside b (drop from s), length-drop from s);
   here = next-piece b from e s h at;
 }
 

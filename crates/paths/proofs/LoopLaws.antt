@@ -69,7 +69,7 @@ next-length-le ts row e = omega (arith, next-length ts row e, before-le ts (leng
 
 -- ---- what is held, spine by spine as the row is written
 
-or-swap : (a b c : Bool) → (a || (b || c)) ≡ (b || (a || c))
+pub or-swap : (a b c : Bool) → (a || (b || c)) ≡ (b || (a || c))
 or-swap true true c = refl
 or-swap true false c = refl
 or-swap false b c = refl

@@ -8,8 +8,9 @@ use mathlib.Core.Bool.{Bool, true, false, cond, not, _&&_}
 use lib.Dec.{eqb, leb}
 use lib.ListN.{length, take, drop, getD, length-take, length-drop, drop-of-length-le}
 use lib.Seq.{drop-cons, take-take}
+use Rattle.slices.proofs.SplitLaws.{index-inside}
 use Rattle.slices.specs.Compare.{sameBytes}
-use Rattle.slices.specs.Split.{pieces, indexOf}
+use Rattle.slices.specs.Split.{pieces}
 use Rattle.slices.proofs.SplitLaws.{next-piece, no-piece}
 use Rattle.slices.specs.Split.{pieceAt}
 use Rattle.lines.specs.Lines.{pieceEnd}
@@ -139,14 +140,5 @@ agree-same t {n} e k o =
     rw (p, k)
 
 -- a token ends within its line
-index-low : (b : ℕ) (l : List ℕ) → indexOf b l ≤ length l
-unfolding indexOf
-index-low b [] = omega arith
-index-low b (x ∷ xs) = go (eqb x b) (index-low b xs)
-  where
-    go : (t : Bool) → indexOf b xs ≤ length xs → cond t 0 (suc (indexOf b xs)) ≤ suc (length xs)
-    go true h = omega arith
-    go false h = omega arith
-
 pub end-low : (line : List ℕ) (from e : ℕ) → from ≤ length line → e ≡ pieceEnd 9 line from → (from ≤ e) × (e ≤ length line)
-end-low line from e h q = omega (arith, index-low 9 (drop from line), length-drop from line)
+end-low line from e h q = omega (arith, index-inside 9 (drop from line), length-drop from line)

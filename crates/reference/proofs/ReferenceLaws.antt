@@ -1,13 +1,14 @@
 -- A reference record's key and value stand inside it, and are the trimmed texts around the first `:`.
 use mathlib.Core.Path.{_≡_, refl, ap, _∙_}
-use mathlib.Core.Bool.{Bool, true, false, cond}
-use mathlib.Core.List.{List, [], _∷_}
-use Prim.Native.Nat.{ℕ, suc, _+_, _-_, _≤_, _<_}
+use mathlib.Core.Bool.{Bool, true, false}
+use mathlib.Core.List.{List, []}
+use Prim.Native.Nat.{ℕ, _+_, _-_, _≤_, _<_}
 use native.Mathlib.Omega.{arith}
-use lib.Dec.{eqb, leb}
+use lib.Dec.{leb}
 use borrow.Author.Tests.{leb-true, leb-false}
 use lib.ListN.{length, take, drop, length-drop, drop-of-length-le}
 use lib.Seq.{take-all}
+use Rattle.slices.proofs.SplitLaws.{index-inside}
 use Rattle.slices.specs.Split.{indexOf}
 use Rattle.reference.specs.Trim.{characters, firstCharacters, text, fromFirst, upToLast, trimmed, trimmedAt}
 use Rattle.reference.specs.Reference.{keyOf, keyPart, valuePart, spanOf, referenceOf}
@@ -15,15 +16,6 @@ use Rattle.reference.specs.declared.Key.{Key}
 use Rattle.reference.specs.declared.Span.{Span}
 use Rattle.reference.specs.declared.Reference.{Reference}
 use Rattle.reference.proofs.SpanLaws.{span-text, span-inside}
-
-index-inside : (b : ℕ) (s : List ℕ) → indexOf b s ≤ length s
-unfolding indexOf
-index-inside b [] = omega arith
-index-inside b (x ∷ s) = go (eqb x b) (index-inside b s)
-  where
-    go : (t : Bool) → indexOf b s ≤ length s → cond t 0 (suc (indexOf b s)) ≤ suc (length s)
-    go true h = omega arith
-    go false h = omega arith
 
 trimmed-none : trimmed [] ≡ []
 unfolding trimmed characters firstCharacters fromFirst upToLast text

@@ -77,12 +77,22 @@ pub index-none : (b : ℕ) → indexOf b [] ≡ 0
 unfolding indexOf
 index-none b = refl
 
+-- a search ends within the list
+pub index-inside : (b : ℕ) (s : List ℕ) → indexOf b s ≤ length s
+unfolding indexOf
+index-inside b [] = omega arith
+index-inside b (x ∷ s) = go (eqb x b) (index-inside b s)
+  where
+    go : (t : Bool) → indexOf b s ≤ length s → cond t 0 (suc (indexOf b s)) ≤ suc (length s)
+    go true h = omega arith
+    go false h = omega arith
+
 pub count-none : (b : ℕ) → length (split b []) ≡ 1
 unfolding split
 count-none b = refl
 
 -- ---- a loop over the indices: what is left from i on, and from i + 1 on
-at-index : (xs : List ℕ) (i : ℕ) → i < length xs → drop i xs ≡ getD xs i 0 ∷ drop (i + 1) xs
+pub at-index : (xs : List ℕ) (i : ℕ) → i < length xs → drop i xs ≡ getD xs i 0 ∷ drop (i + 1) xs
 at-index xs i h = rw (add-one, drop-cons xs i 0)
 
 module _ (b i : ℕ) (xs : List ℕ) where

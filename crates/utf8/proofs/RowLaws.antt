@@ -4,17 +4,14 @@ use mathlib.Core.Bool.{Bool, true, false, cond, _&&_}
 use mathlib.Core.List.{List, [], _∷_, List·Memᴰ, List·Memᴰ·head, List·Memᴰ·tail}
 use Prim.Native.Nat.{ℕ, zero, suc, _+_, _-_, _≤_, _<_}
 use native.Mathlib.Nat.{not-suc-le-zero, le-of-suc-le-suc}
-use native.Mathlib.Numerals.{add-one}
 use native.Mathlib.Omega.{arith}
 use lib.Dec.{leb}
 use lib.ListN.{length, drop, getD, drop-of-length-le}
-use lib.Seq.{drop-cons, drop-drop}
+use lib.Seq.{drop-drop}
 use borrow.Author.Tests.{le-leb, leb-true, leb-false}
+use Rattle.slices.proofs.SplitLaws.{at-index}
 use Rattle.utf8.specs.Utf8.{Range, tails, table, begins, charLength}
 use Rattle.utf8.proofs.TableLaws.{char-lead, char-miss, Out, begins-out}
-
-at-index : (s : List ℕ) (i : ℕ) → i < length s → drop i s ≡ getD s i 0 ∷ drop (i + 1) s
-at-index s i h = rw (add-one, drop-cons s i 0)
 
 -- ---- one byte: past the end, below the range, and up to its last
 module _ (r : Range) (s : List ℕ) (i : ℕ) where

@@ -10,6 +10,7 @@ use mathlib.Core.Option.{Option, none, some}
 use lib.Dec.{eqb}
 use lib.ListN.{length, getD, take, drop, set, length-set, drop-of-length-le, take-append-drop}
 use lib.Seq.{getD-set-same, getD-set-other, take-all, take-suc-set, drop-set-lt}
+use Rattle.paths.proofs.LoopLaws.{or-swap}
 use Rattle.paths.specs.Row.{Spine, line, branch, outside}
 use Rattle.paths.specs.Voices.{holds, lowest, withVoice, Outcome, next, voiceless, ahead, settle, giveVoices, voiceRow}
 use Rattle.paths.proofs.LoopLaws.{give-agrees, lowest-agrees, behind, behind-next, behind-voiceless, behind-snoc}
@@ -27,11 +28,6 @@ give-settled held (branch p) row e = cc
 give-branch : (held : ℕ → ℕ → Bool) (p : ℕ) (row : List Spine) → giveVoices held (branch p ∷ row) ≡ settle p (λ v. giveVoices (withVoice p v held) row) (lowest (held p))
 unfolding giveVoices
 give-branch held p row = refl
-
-or-swap : (a b c : Bool) → (a || (b || c)) ≡ (b || (a || c))
-or-swap true true c = refl
-or-swap true false c = refl
-or-swap false b c = refl
 
 -- a branch becomes a line
 holds-put : (done row : List Spine) (p v q w : ℕ) → withVoice p v (holds (done ++ (branch p ∷ row))) q w ≡ holds (done ++ (line p v ∷ row)) q w
