@@ -1,0 +1,2 @@
+-- Worked texts.
+pub mod Examples
