@@ -1,4 +1,7 @@
 //! Our reader beside the published one.
+mod check;
+mod encoder;
+mod generate;
 mod leaves;
 mod rows;
 mod source;
@@ -90,13 +93,24 @@ fn sample(kind: &str, requests: &str, answers: &str) -> ExitCode {
     ExitCode::SUCCESS
 }
 
+/// Writes the encoder's sheet of a text, or number, line and figure of its refusal.
+fn sheet(text: &str) -> ExitCode {
+    match encoder::sheet(&std::fs::read(text).expect("the text is read")) {
+        Ok(sheet) => std::io::stdout().write_all(&sheet).unwrap(),
+        Err((number, line, figure)) => println!("{number} {line} {figure}"),
+    }
+    ExitCode::SUCCESS
+}
+
 fn main() -> ExitCode {
     let words: Vec<String> = std::env::args().skip(1).collect();
     match words.iter().map(String::as_str).collect::<Vec<_>>()[..] {
         ["run", kind @ ("leaves" | "rows" | "tokens"), program] => compare(kind, program),
         ["sample", kind @ ("leaves" | "rows" | "tokens"), requests, answers] => sample(kind, requests, answers),
+        ["encoder", seed, texts] => check::encoder(seed.parse().expect("a seed"), texts.parse().expect("a number of texts")),
+        ["sheet", text] => sheet(text),
         _ => {
-            eprintln!("usage: compare run leaves|rows|tokens PROGRAM | compare sample leaves|rows|tokens REQUESTS ANSWERS");
+            eprintln!("usage: compare sheet TEXT | compare encoder SEED TEXTS | compare run leaves|rows|tokens PROGRAM | compare sample leaves|rows|tokens REQUESTS ANSWERS");
             ExitCode::from(2)
         }
     }

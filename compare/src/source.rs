@@ -63,7 +63,6 @@ pub fn beam_number(b: &BeamState) -> u8 {
     }
 }
 
-#[allow(dead_code)]
 pub fn articulation_number(a: &Articulation) -> u8 {
     match a {
         Articulation::Staccato => 0,

@@ -4,28 +4,28 @@ use crate::source::*;
 
 const ALPHABET: [&str; 16] = ["0", "4", ".", "c", "C", "#", "-", "n", "r", "[", "L", "J", "q", "'", "%", " "];
 
-fn notice_number(reason: &str) -> u8 {
-    match reason {
+/// The number of a token's notice, by its wording.
+pub fn notice_number(reason: &str) -> Option<u8> {
+    Some(match reason {
         "rational (%) or repeated durations are outside the subset" => 16,
         "kern signifiers outside the supported subset were not imported" => 17,
         "data token has neither a pitch nor a rest" => 18,
         "reciprocal duration is outside the supported range" => 19,
         "missing reciprocal duration was inferred from aligned music spines" => 20,
         "a non-grace kern token needs a duration" => 21,
-        other => panic!("not a notice of a token: {other}"),
-    }
+        _ => return None,
+    })
 }
 
 /// What becomes of the last token of a record, all of whose columns are kern. A last record keeps a text without a note from being refused.
 pub fn token(record: &str) -> Case {
     let columns = record.split('\t').count();
-    let header = vec!["**kern"; columns].join("\t");
-    let last = vec!["1r"; columns].join("\t");
-    let report = parse_kern_with_report(&format!("{header}\n{record}\n=\n{last}\n").replace("\n=\n", &format!("\n{}\n", vec!["="; columns].join("\t")))).unwrap();
+    let all = |token: &str| vec![token; columns].join("\t");
+    let report = parse_kern_with_report(&format!("{}\n{record}\n{}\n{}\n", all("**kern"), all("="), all("1r"))).unwrap();
     let mut answer = String::new();
     let place = format!("/line/2/spine/{columns}");
     for d in report.diagnostics.iter().filter(|d| d.source_location.as_deref() == Some(&place)) {
-        let number = notice_number(d.loss_reason.as_ref().unwrap());
+        let number = notice_number(d.loss_reason.as_ref().unwrap()).unwrap();
         answer.push_str(&format!("{number} "));
         if number == 17 {
             answer.push_str(&format!("{} ", d.preserved_value.as_ref().unwrap()));
