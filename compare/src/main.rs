@@ -33,6 +33,7 @@ fn cases_of(kind: &str) -> Vec<(&'static str, Vec<Case>)> {
     match kind {
         "rows" => vec![("path records", rows::all())],
         "tokens" => vec![("note tokens", tokens::all(5))],
+        "longer-tokens" => vec![("longer note tokens", tokens::longer())],
         _ => leaves::all(),
     }
 }
@@ -105,12 +106,12 @@ fn sheet(text: &str) -> ExitCode {
 fn main() -> ExitCode {
     let words: Vec<String> = std::env::args().skip(1).collect();
     match words.iter().map(String::as_str).collect::<Vec<_>>()[..] {
-        ["run", kind @ ("leaves" | "rows" | "tokens"), program] => compare(kind, program),
+        ["run", kind @ ("leaves" | "rows" | "tokens" | "longer-tokens"), program] => compare(kind, program),
         ["sample", kind @ ("leaves" | "rows" | "tokens"), requests, answers] => sample(kind, requests, answers),
         ["encoder", seed, texts] => check::encoder(seed.parse().expect("a seed"), texts.parse().expect("a number of texts")),
         ["sheet", text] => sheet(text),
         _ => {
-            eprintln!("usage: compare sheet TEXT | compare encoder SEED TEXTS | compare run leaves|rows|tokens PROGRAM | compare sample leaves|rows|tokens REQUESTS ANSWERS");
+            eprintln!("usage: compare sheet TEXT | compare encoder SEED TEXTS | compare run leaves|rows|tokens|longer-tokens PROGRAM | compare sample leaves|rows|tokens REQUESTS ANSWERS");
             ExitCode::from(2)
         }
     }

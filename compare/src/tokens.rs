@@ -68,3 +68,10 @@ pub fn all(high: usize) -> Vec<Case> {
     }
     cases
 }
+
+/// All tokens of six bytes over ten that end and begin runs, and all of seven over six.
+pub fn longer() -> Vec<Case> {
+    let six = strings(&["4", ".", "c", "d", "#", "n", "r", "%", " ", "x"], 6, 6);
+    let seven = strings(&["0", "c", "-", "q", " ", "C"], 7, 7);
+    six.iter().chain(&seven).map(|s| token(s)).collect()
+}
