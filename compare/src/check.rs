@@ -146,6 +146,11 @@ fn of_encoder(text: &[u8]) -> String {
     }
 }
 
+/// Whether the encoder's sheet of a text says what the source's report says.
+pub fn agree(text: &[u8]) -> bool {
+    of_encoder(text) == of_source(text)
+}
+
 /// Texts by a seed, and how many the encoder reads otherwise than the source; the first of them is shown.
 pub fn encoder(seed: u64, texts: usize) -> ExitCode {
     let mut seed = Seed(2 * seed + 1);

@@ -5,6 +5,7 @@ mod generate;
 mod leaves;
 mod rows;
 mod source;
+mod texts;
 mod tokens;
 
 use leaves::Case;
@@ -108,10 +109,17 @@ fn main() -> ExitCode {
     match words.iter().map(String::as_str).collect::<Vec<_>>()[..] {
         ["run", kind @ ("leaves" | "rows" | "tokens" | "longer-tokens"), program] => compare(kind, program),
         ["sample", kind @ ("leaves" | "rows" | "tokens"), requests, answers] => sample(kind, requests, answers),
+        ["run", "texts", program, seed, texts] => texts::beside(program, seed.parse().expect("a seed"), texts.parse().expect("a number of texts")),
+        ["sample", "texts", requests, answers] => {
+            let (input, output) = texts::list();
+            std::fs::write(requests, input).unwrap();
+            std::fs::write(answers, output).unwrap();
+            ExitCode::SUCCESS
+        }
         ["encoder", seed, texts] => check::encoder(seed.parse().expect("a seed"), texts.parse().expect("a number of texts")),
         ["sheet", text] => sheet(text),
         _ => {
-            eprintln!("usage: compare sheet TEXT | compare encoder SEED TEXTS | compare run leaves|rows|tokens|longer-tokens PROGRAM | compare sample leaves|rows|tokens REQUESTS ANSWERS");
+            eprintln!("usage: compare sheet TEXT | compare encoder SEED TEXTS | compare run leaves|rows|tokens|longer-tokens PROGRAM | compare run texts PROGRAM SEED TEXTS | compare sample leaves|rows|tokens|texts REQUESTS ANSWERS");
             ExitCode::from(2)
         }
     }

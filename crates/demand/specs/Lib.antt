@@ -1,0 +1,2 @@
+-- What holds of the buffer's bytes after an acceptance.
+pub mod Played

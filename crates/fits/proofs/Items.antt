@@ -1,0 +1,240 @@
+-- The items of a token: each a byte of it or a value, and no more than it has bytes.
+use mathlib.Core.Path.{_≡_, refl, ap}
+use mathlib.Core.Bool.{Bool, true, false, cond}
+use mathlib.Core.List.{List, [], _∷_}
+use Prim.Native.Nat.{ℕ, suc, _+_, _≤_}
+use native.Mathlib.Omega.{arith}
+use native.Mathlib.Nat.{mod-lt}
+use lib.Dec.{eqb, ltb}
+use lib.ListN.{length, length-append}
+use borrow.Author.Tests.{ltb-true}
+use Rattle.sheet.specs.Fits.{All, u8}
+use Rattle.duration.specs.Duration.{durationOf}
+use Rattle.duration.specs.declared.Value.{Value}
+use Rattle.duration.specs.declared.Value.the-variants.{Missing, Plain, Tuplet}
+use Rattle.duration.proofs.Lowest.{duration-tuplet, duration-value}
+use Rattle.pitch.specs.Pitch.{pitchOf, twosComplement}
+use Rattle.pitch.specs.declared.Pitch.{Pitch}
+use Rattle.pitch.specs.declared.Pitch.the-variants.{At, Outside}
+use Rattle.pitch.proofs.PitchLaws.{pitch-bounds}
+use Rattle.pitch.proofs.SignLaws.{altered-byte}
+use Rattle.items.specs.Items.{isDigit, isLetter, joins, into, runs, itemOf, itemsOf, items}
+use Rattle.items.specs.declared.Item.{Item}
+use Rattle.items.specs.declared.Item.the-variants.{Digits, Letters, Blank, Mark}
+use Rattle.token.specs.Token.{fits, passes, begun, signed, given, heard, signifiers, marks, articulation, articulationsIn}
+use Rattle.token.specs.declared.pitches.Tone.{Tone}
+use Rattle.token.specs.declared.pitches.Sound.{Sound}
+use Rattle.token.specs.declared.pitches.Sound.the-variants.{Silence, Of}
+use Rattle.fits.proofs.Each.{all-append}
+
+-- ---- values
+
+abbrev pub ValueFits : Value → Type 0
+ValueFits Missing = Unit {0}
+ValueFits (Plain v) = u8 v
+ValueFits (Tuplet v a n) = u8 v × u8 a × u8 n
+
+pub value-fits : (s : List ℕ) → ValueFits (durationOf s)
+value-fits s = go (durationOf s) refl
+  where
+    go : (v : Value) → durationOf s ≡ v → ValueFits v
+    go Missing e = tt
+    go (Plain v) e = omega (arith, duration-value s v e)
+    go (Tuplet v a n) e =
+        let r = duration-tuplet s v a n e .1 in
+        (omega (arith, r .value .1), omega (arith, r .actual-range .1), omega (arith, r .normal-range .1))
+
+-- ---- runs and items
+
+into-bytes : (x : ℕ) (rs : List (List ℕ)) → u8 x → All (All u8) rs → All (All u8) (into x rs)
+unfolding into
+into-bytes x [] h k = ((h, tt), tt)
+into-bytes x ([] ∷ rs) h k = ((h, tt), k .1)
+into-bytes x ((y ∷ r) ∷ rs) h k = go (joins x y)
+  where
+    go : (t : Bool) → All (All u8) (cond t ((x ∷ y ∷ r) ∷ rs) ((x ∷ []) ∷ (y ∷ r) ∷ rs))
+    go true = ((h, k .0), k .1)
+    go false = ((h, tt), k)
+
+into-length : (x : ℕ) (rs : List (List ℕ)) → length (into x rs) ≤ suc (length rs)
+unfolding into
+into-length x [] = omega arith
+into-length x ([] ∷ rs) = omega arith
+into-length x ((y ∷ r) ∷ rs) = go (joins x y)
+  where
+    go : (t : Bool) → length (cond t ((x ∷ y ∷ r) ∷ rs) ((x ∷ []) ∷ (y ∷ r) ∷ rs)) ≤ suc (suc (length rs))
+    go true = omega arith
+    go false = omega arith
+
+runs-bytes : (s : List ℕ) → All u8 s → All (All u8) (runs s)
+unfolding runs
+runs-bytes [] h = tt
+runs-bytes (x ∷ s) h = into-bytes x (runs s) (h .0) (runs-bytes s (h .1))
+
+runs-length : (s : List ℕ) → length (runs s) ≤ length s
+unfolding runs
+runs-length [] = omega arith
+runs-length (x ∷ s) = omega (arith, into-length x (runs s), runs-length s)
+
+abbrev pub ItemFits : Item → Type 0
+ItemFits (Digits v) = ValueFits v
+ItemFits (Letters c n) = u8 c
+ItemFits Blank = Unit {0}
+ItemFits (Mark b) = u8 b
+
+item-fits : (r : List ℕ) → All u8 r → ItemFits (itemOf r)
+unfolding itemOf
+item-fits [] h = tt
+item-fits (x ∷ xs) h = go (isDigit x) (isLetter x) (eqb x 32)
+  where
+    go : (d l b : Bool) → ItemFits (cond d (Digits (durationOf (x ∷ xs))) (cond l (Letters x (suc (length xs))) (cond b Blank (Mark x))))
+    go true l b = value-fits (x ∷ xs)
+    go false true b = h .0
+    go false false true = tt
+    go false false false = h .0
+
+all-items : (rs : List (List ℕ)) → All (All u8) rs → All ItemFits (itemsOf rs)
+unfolding itemsOf
+all-items [] h = tt
+all-items (r ∷ rs) h = (item-fits r (h .0), all-items rs (h .1))
+
+items-of : (rs : List (List ℕ)) → length (itemsOf rs) ≡ length rs
+unfolding itemsOf
+items-of [] = refl
+items-of (r ∷ rs) = ap suc (items-of rs)
+
+pub items-fit : (s : List ℕ) → All u8 s → All ItemFits (items s)
+items-fit s h = all-items (runs s) (runs-bytes s h)
+
+pub items-length : (s : List ℕ) → length (items s) ≤ length s
+items-length s = omega (arith, items-of (runs s), runs-length s)
+
+-- ---- marks and articulations
+
+marks-length : (is : List Item) → length (marks is) ≤ length is
+unfolding marks
+marks-length [] = omega arith
+marks-length (Digits v ∷ is) = omega (arith, marks-length is)
+marks-length (Letters c n ∷ is) = omega (arith, marks-length is)
+marks-length (Blank ∷ is) = omega (arith, marks-length is)
+marks-length (Mark b ∷ is) = omega (arith, marks-length is)
+
+articulations-in : (bs : List ℕ) → length (articulationsIn bs) ≤ length bs
+unfolding articulationsIn
+articulations-in [] = omega arith
+articulations-in (b ∷ bs) = go (ltb (articulation b) 5) (articulations-in bs)
+  where
+    go : (t : Bool) → length (articulationsIn bs) ≤ length bs
+        → length (cond t (articulation b ∷ articulationsIn bs) (articulationsIn bs)) ≤ suc (length bs)
+    go true h = omega arith
+    go false h = omega arith
+
+pub articulations-length : (is : List Item) → length (articulationsIn (marks is)) ≤ length is
+articulations-length is = omega (arith, articulations-in (marks is), marks-length is)
+
+pub articulations-fit : (bs : List ℕ) → All u8 (articulationsIn bs)
+unfolding articulationsIn
+articulations-fit [] = tt
+articulations-fit (b ∷ bs) = go (ltb (articulation b) 5) refl (articulations-fit bs)
+  where
+    go : (t : Bool) → ltb (articulation b) 5 ≡ t → All u8 (articulationsIn bs)
+        → All u8 (cond t (articulation b ∷ articulationsIn bs) (articulationsIn bs))
+    go true e h = (omega (arith, ltb-true (articulation b) 5 e), h)
+    go false e h = h
+
+-- ---- pitches
+
+abbrev pub ToneFits : Tone → Type 0
+ToneFits t = u8 (t .step) × u8 (t .octave) × u8 (t .alter)
+
+abbrev SoundFits : Sound → Type 0
+SoundFits Silence = Unit {0}
+SoundFits (Of t) = ToneFits t
+
+abbrev one : Sound → ℕ
+one Silence = 0
+one (Of t) = 1
+
+begun-fits : (s : Sound) (c n : ℕ) → SoundFits s → SoundFits (begun s (pitchOf c n))
+begun-fits s c n h = go s h (pitchOf c n) refl
+  where
+    go : (s : Sound) → SoundFits s → (p : Pitch) → p ≡ pitchOf c n → SoundFits (begun s p)
+    go Silence h (At step octave) e = let b = pitch-bounds c n step octave e in (omega arith, omega arith, omega arith)
+    go Silence h Outside e = tt
+    go (Of t) h p e = h
+
+begun-one : (s : Sound) (p : Pitch) → one (begun s p) ≤ one s + 1
+begun-one Silence (At step octave) = omega arith
+begun-one Silence Outside = omega arith
+begun-one (Of t) p = omega arith
+
+signed-fits : (s : Sound) (b : ℕ) → SoundFits s → SoundFits (signed s b)
+signed-fits Silence b h = tt
+signed-fits (Of t) b h = (h .0, h .1, altered-byte (t .alter) b (h .2))
+
+signed-one : (s : Sound) (b : ℕ) → one (signed s b) ≡ one s
+signed-one Silence b = refl
+signed-one (Of t) b = refl
+
+given-fits : (s : Sound) → SoundFits s → All ToneFits (given s)
+given-fits Silence h = tt
+given-fits (Of t) h = (h, tt)
+
+given-one : (s : Sound) → length (given s) ≡ one s
+given-one Silence = refl
+given-one (Of t) = refl
+
+pub heard-fits : (s : Sound) (is : List Item) → SoundFits s → All ToneFits (heard s is)
+unfolding heard
+heard-fits s [] h = given-fits s h
+heard-fits s (Digits v ∷ is) h = heard-fits s is h
+heard-fits s (Letters c n ∷ is) h = heard-fits (begun s (pitchOf c n)) is (begun-fits s c n h)
+heard-fits s (Blank ∷ is) h = all-append ToneFits (given s) (heard Silence is) (given-fits s h) (heard-fits Silence is tt)
+heard-fits s (Mark b ∷ is) h = heard-fits (signed s b) is (signed-fits s b h)
+
+pub heard-length : (s : Sound) (is : List Item) → length (heard s is) ≤ one s + length is
+unfolding heard
+heard-length s [] = omega (arith, given-one s)
+heard-length s (Digits v ∷ is) = omega (arith, heard-length s is)
+heard-length s (Letters c n ∷ is) = omega (arith, heard-length (begun s (pitchOf c n)) is, begun-one s (pitchOf c n))
+heard-length s (Blank ∷ is) = omega (arith, length-append (given s) (heard Silence is), given-one s, heard-length Silence is)
+heard-length s (Mark b ∷ is) = omega (arith, heard-length (signed s b) is, signed-one s b)
+
+pub alter-fits : (a : ℕ) → u8 (twosComplement a)
+unfolding twosComplement
+alter-fits a = mod-lt (a + 128) {m = 256} (omega arith)
+
+-- ---- signifiers
+
+pub signifiers-fit : (s : Bool) (is : List Item) → All ItemFits is → All u8 (signifiers s is)
+unfolding signifiers
+signifiers-fit s [] h = tt
+signifiers-fit s (Digits v ∷ is) h = signifiers-fit s is (h .1)
+signifiers-fit s (Letters c n ∷ is) h = go (fits s (pitchOf c n)) (signifiers-fit true is (h .1)) (signifiers-fit s is (h .1))
+  where
+    go : (t : Bool) → All u8 (signifiers true is) → All u8 (signifiers s is) → All u8 (cond t (signifiers true is) (c ∷ signifiers s is))
+    go true a b = a
+    go false a b = (h .0, b)
+signifiers-fit s (Blank ∷ is) h = signifiers-fit false is (h .1)
+signifiers-fit s (Mark b ∷ is) h = go (passes s b) (signifiers-fit s is (h .1))
+  where
+    go : (t : Bool) → All u8 (signifiers s is) → All u8 (cond t (signifiers s is) (b ∷ signifiers s is))
+    go true a = a
+    go false a = (h .0, a)
+
+pub signifiers-length : (s : Bool) (is : List Item) → length (signifiers s is) ≤ length is
+unfolding signifiers
+signifiers-length s [] = omega arith
+signifiers-length s (Digits v ∷ is) = omega (arith, signifiers-length s is)
+signifiers-length s (Letters c n ∷ is) = go (fits s (pitchOf c n)) (signifiers-length true is) (signifiers-length s is)
+  where
+    go : (t : Bool) → length (signifiers true is) ≤ length is → length (signifiers s is) ≤ length is
+        → length (cond t (signifiers true is) (c ∷ signifiers s is)) ≤ suc (length is)
+    go true a b = omega arith
+    go false a b = omega arith
+signifiers-length s (Blank ∷ is) = omega (arith, signifiers-length false is)
+signifiers-length s (Mark b ∷ is) = go (passes s b) (signifiers-length s is)
+  where
+    go : (t : Bool) → length (signifiers s is) ≤ length is → length (cond t (signifiers s is) (b ∷ signifiers s is)) ≤ suc (length is)
+    go true a = omega arith
+    go false a = omega arith

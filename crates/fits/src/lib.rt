@@ -1,0 +1,1 @@
+// Every record of the sheet has room in its fields.

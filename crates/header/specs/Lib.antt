@@ -1,0 +1,2 @@
+-- The header's columns, one by one.
+pub mod Columns

@@ -1,0 +1,8 @@
+-- Laws of notes: beams in their cells, notices and notes of a token, and the columns of a record.
+pub mod BeamLaws
+pub mod ListLaws
+pub mod NoticeLaws
+pub mod TokenLaws
+pub mod PeerLaws
+pub mod ColumnLaws
+pub mod DataLaws

@@ -1,0 +1,2 @@
+-- What holds where a line is read.
+pub mod Here

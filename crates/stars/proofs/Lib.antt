@@ -1,0 +1,6 @@
+-- Laws of star records.
+pub mod CellLaws
+pub mod ApplyLaws
+pub mod PairLaws
+pub mod LoopLaws
+pub mod StarLaws
