@@ -159,8 +159,9 @@ tells text out rest (Written p n k) e = measured text p n k out rest e
 abbrev pub Answers : List ℕ → List ℕ → List ℕ → Answered → Type 0
 Answers text old now-out r =
     (numbersOf r ≡ answerOf text old)
+    × (((k f : ℕ) → r ≡ RefusedWith 0 k f → ⊥)
     × ((now-out ≡ bufferOf text old)
-    × (((n : ℕ) → r ≡ Accepted n → Played text now-out) × (((f : ℕ) → r ≡ RefusedWith 13 0 f → f < 2 ^ 32) × Question-8 text)))
+    × (((n : ℕ) → r ≡ Accepted n → Played text now-out) × (((f : ℕ) → r ≡ RefusedWith 13 0 f → f < 2 ^ 32) × Question-8 text))))
 
 pub answers-refused : (text old : List ℕ) (n l f : ℕ) → readText text ≡ refusal n l f → Answers text old old (RefusedWith n l f)
 answers-refused text old n l f e =
@@ -168,10 +169,13 @@ answers-refused text old n l f e =
     let few = refusal-number text n l f e in (
       sym (a .0),
       (
-        sym (a .1),
+        λ (k g : ℕ) q. let z : n ≡ 0 = cc in omega (arith, few .0),
         (
-          λ (k : ℕ) q. absurd (let z : _≡_ {A = ℕ} 0 1 = cc in omega arith),
-          (λ (g : ℕ) q. absurd (let z : n ≡ 13 = cc in omega (arith, few .1)), question-8 text),
+          sym (a .1),
+          (
+            λ (k : ℕ) q. absurd (let z : _≡_ {A = ℕ} 0 1 = cc in omega arith),
+            (λ (g : ℕ) q. absurd (let z : n ≡ 13 = cc in omega (arith, few .1)), question-8 text),
+          ),
         ),
       ),
     )
@@ -182,10 +186,13 @@ answers-short {text} {parts} {notes} {at} old m h =
     let a = answers-13 old m h in (
       sym (a .0),
       (
-        sym (a .1),
+        λ (k g : ℕ) q. let z : _≡_ {A = ℕ} 13 0 = cc in omega arith,
         (
-          λ (k : ℕ) q. absurd (let z : _≡_ {A = ℕ} 0 1 = cc in omega arith),
-          (λ (g : ℕ) q. let z : 16 + at ≡ g = cc in omega (arith, measured-long m), question-8 text),
+          sym (a .1),
+          (
+            λ (k : ℕ) q. absurd (let z : _≡_ {A = ℕ} 0 1 = cc in omega arith),
+            (λ (g : ℕ) q. let z : 16 + at ≡ g = cc in omega (arith, measured-long m), question-8 text),
+          ),
         ),
       ),
     )
@@ -195,10 +202,13 @@ pub answers-written : {text : List ℕ} {parts notes at : ℕ} (old : List ℕ) 
 answers-written {text} {parts} {notes} {at} old bytes m h {now-out} e = (
   sym (answers-sheet old m h),
   (
-    e,
+    λ (k g : ℕ) q. let z : _≡_ {A = ℕ} 0 1 = cc in omega arith,
     (
-      λ (k : ℕ) q. subst (Played text) (sym e) (played text old bytes parts notes (m .records) (m .is) (omega (arith, m .size))),
-      (λ (g : ℕ) q. absurd (let z : _≡_ {A = ℕ} 0 1 = cc in omega arith), question-8 text),
+      e,
+      (
+        λ (k : ℕ) q. subst (Played text) (sym e) (played text old bytes parts notes (m .records) (m .is) (omega (arith, m .size))),
+        (λ (g : ℕ) q. absurd (let z : _≡_ {A = ℕ} 0 1 = cc in omega arith), question-8 text),
+      ),
     ),
   ),
 )

@@ -207,6 +207,7 @@ fn write_sheet(text: &[u8], out: &mut [u8], parts: usize, notes: u32, at: usize)
 // holds the sheet first and its old bytes behind after an acceptance.
 pub fn read(text: &[u8], out: &mut [u8]) -> Answer
     ensures answer { λ r. ⌜ numbersOf r ≡ answerOf (now (text .entry)) (now (out .entry)) ⌝ }
+    ensures numbered { λ r. ⌜ ((k f : ℕ) → r ≡ Refused 0 k f → ⊥) ⌝ }
     ensures buffer { λ _. ⌜ now (out .exit) ≡ bufferOf (now (text .entry)) (now (out .entry)) ⌝ }
     ensures played { λ r. ⌜ ((n : ℕ) → r ≡ Accepted n → Played (now (text .entry)) (now (out .exit))) ⌝ }
     ensures needed { λ r. ⌜ ((f : ℕ) → r ≡ Refused 13 0 f → f < 2 ^ 32) ⌝ }

@@ -1,0 +1,3 @@
+-- Laws of the reader's answer and of the texts lent out.
+pub mod AnswerLaws
+pub mod WordLaws
