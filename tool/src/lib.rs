@@ -1,0 +1,68 @@
+//! Ruevault, a verified reader of Humdrum `**kern`, for Rust programs.
+//!
+//! [`sheet_of`] reads a text into a sheet, and [`records`] takes the sheet apart. The reading itself, the words of the notices and the names
+//! of the parts are the proved library's; this crate calls it and keeps no table of its own.
+//!
+//! ```
+//! let sheet = ruevault::sheet_of(b"**kern\n4c\n*-\n").unwrap();
+//! assert_eq!(sheet.len(), 119);
+//! ```
+mod proved;
+mod refusal;
+mod sheet;
+
+pub use refusal::Refusal;
+pub use sheet::{Bar, End, Head, Note, Notice, Part, Pitch, Record, Records, Span, head, walk};
+
+/// The most bytes that a text may have.
+pub const MAX_TEXT: usize = 67_108_864;
+
+/// Reads a text into a lent buffer, and answers the sheet's length. After an acceptance the buffer holds the sheet first and its old bytes
+/// behind; after a refusal it is unchanged.
+pub fn read(text: &[u8], out: &mut [u8]) -> Result<usize, Refusal> {
+    let (refused, [number, line, figure]) = proved::read(text, out);
+    match refused {
+        0 => Ok(figure as usize),
+        _ => Err(Refusal { number: number as u32, line, figure }),
+    }
+}
+
+/// The sheet of a text. An empty buffer measures it: 13's figure is the length that the sheet needs.
+pub fn sheet_of(text: &[u8]) -> Result<Vec<u8>, Refusal> {
+    let needed = match read(text, &mut []) {
+        Ok(length) => length,
+        Err(Refusal { number: 13, figure, .. }) => figure as usize,
+        Err(refusal) => return Err(refusal),
+    };
+    let mut sheet = vec![0; needed];
+    let length = read(text, &mut sheet)?;
+    sheet.truncate(length);
+    Ok(sheet)
+}
+
+/// The code of a notice, 1 to 21; empty for a number that is no notice.
+pub fn notice_code(number: u8) -> String {
+    said(|out| proved::notice_code(number, out))
+}
+
+/// The reason of a notice, 1 to 21; empty for a number that is no notice.
+pub fn notice_reason(number: u8) -> String {
+    said(|out| proved::notice_reason(number, out))
+}
+
+/// The name of a part: `given`, `at` and `len` are the PART record's. Where none is given it is `Spine 1` for part 0 and so on.
+pub fn part_name(text: &[u8], given: bool, at: u32, len: u32, part: u8) -> String {
+    said(|out| proved::part_name(text, given.into(), at, len, part, out))
+}
+
+/// The records of a sheet in their order. [`walk`] gives them one by one, for long sheets.
+pub fn records(sheet: &[u8]) -> Vec<Record> {
+    walk(sheet).collect()
+}
+
+/// What a function of the library puts into a buffer. It is called twice, first to measure.
+fn said(put: impl Fn(&mut [u8]) -> usize) -> String {
+    let mut out = vec![0; put(&mut [])];
+    put(&mut out);
+    String::from_utf8_lossy(&out).into_owned()
+}
