@@ -1,8 +1,15 @@
 //! Our reader beside the published one.
+#[cfg(library)]
+mod bench;
 mod check;
 mod encoder;
+#[cfg_attr(not(library), allow(dead_code))]
 mod generate;
 mod leaves;
+#[cfg(library)]
+mod library;
+#[cfg(library)]
+mod reader;
 mod rows;
 mod source;
 mod texts;
@@ -104,6 +111,30 @@ fn sheet(text: &str) -> ExitCode {
     ExitCode::SUCCESS
 }
 
+/// The commands over the proved library.
+#[cfg(library)]
+fn library(words: &[&str]) -> ExitCode {
+    match *words {
+        ["reader", "short", lines] => reader::short(lines.parse().expect("a number of lines")),
+        ["reader", "edges"] => reader::edges(),
+        ["reader", seed, texts] => reader::by_seed(seed.parse().expect("a seed"), texts.parse().expect("a number of texts")),
+        ["bench"] => bench::all(""),
+        ["bench", kinds] => bench::all(kinds),
+        _ => usage(),
+    }
+}
+
+#[cfg(not(library))]
+fn library(_: &[&str]) -> ExitCode {
+    eprintln!("this is built without the proved library: `rt staticlib kern_ffi` makes it in target/staticlib (or name its folder in RUEVAULT_LIB), then build again");
+    ExitCode::from(2)
+}
+
+fn usage() -> ExitCode {
+    eprintln!("usage: compare sheet TEXT | compare encoder SEED TEXTS | compare run leaves|rows|tokens|longer-tokens PROGRAM | compare run texts PROGRAM SEED TEXTS | compare sample leaves|rows|tokens|texts REQUESTS ANSWERS | compare reader SEED TEXTS | compare reader short LINES | compare reader edges | compare bench [KIND]");
+    ExitCode::from(2)
+}
+
 fn main() -> ExitCode {
     let words: Vec<String> = std::env::args().skip(1).collect();
     match words.iter().map(String::as_str).collect::<Vec<_>>()[..] {
@@ -118,9 +149,7 @@ fn main() -> ExitCode {
         }
         ["encoder", seed, texts] => check::encoder(seed.parse().expect("a seed"), texts.parse().expect("a number of texts")),
         ["sheet", text] => sheet(text),
-        _ => {
-            eprintln!("usage: compare sheet TEXT | compare encoder SEED TEXTS | compare run leaves|rows|tokens|longer-tokens PROGRAM | compare run texts PROGRAM SEED TEXTS | compare sample leaves|rows|tokens|texts REQUESTS ANSWERS");
-            ExitCode::from(2)
-        }
+        ["reader" | "bench", ..] => library(&words.iter().map(String::as_str).collect::<Vec<_>>()),
+        _ => usage(),
     }
 }

@@ -15,7 +15,7 @@ fn joined(token: &str, times: usize) -> String {
 }
 
 /// Texts by hand: each refusal, each notice, both edges.
-fn picked() -> Vec<Vec<u8>> {
+pub fn picked() -> Vec<Vec<u8>> {
     let wide = |n: usize, rest: &str| format!("{}\n{rest}", joined("**kern", n)).into_bytes();
     let kern = |rest: &str| format!("**kern\n{rest}").into_bytes();
     let two = |rest: &str| format!("**kern\t**kern\n{rest}").into_bytes();
@@ -130,7 +130,7 @@ pub fn beside(program: &str, seed: u64, texts: usize) -> ExitCode {
 }
 
 /// The text without each line whose absence leaves the failure.
-fn cut(mut text: Vec<u8>, fails: impl Fn(&[u8]) -> bool) -> Vec<u8> {
+pub fn cut(mut text: Vec<u8>, mut fails: impl FnMut(&[u8]) -> bool) -> Vec<u8> {
     let mut line = 0;
     loop {
         let lines: Vec<&[u8]> = text.split(|b| *b == b'\n').collect();
