@@ -58,9 +58,6 @@ divides (suc f) a b le =
     divides-by a b (gcdIn f b (a % b)) (eqb b 0) refl
     (λ nz. let lt : a % b < b = mod-lt a (omega arith) in divides f b (a % b) (omega arith))
 
-pub gcd-divides : (a b : ℕ) → (gcdOf a b ∣ a) × (gcdOf a b ∣ b)
-gcd-divides a b = divides b a b (le-refl _)
-
 -- and whatever divides both divides it
 greatest-by : (d a g : ℕ) (t : Bool) → d ∣ a → d ∣ g → d ∣ cond t a g
 greatest-by d a g true h k = h

@@ -166,18 +166,3 @@ ranged token noted =
     .range
 
 -- so no notice's number is above 15
-notice-by : (r : Interpretation) → Ranged r → noticeOf r ≤ 15
-unfolding noticeOf
-notice-by Nothing p = omega arith
-notice-by (Clef n) p = omega arith
-notice-by (Key n) p = omega arith
-notice-by (Meter n d) p = omega arith
-notice-by (Symbol n) p = omega arith
-notice-by (Tempo n) p = omega arith
-notice-by Name p = omega arith
-notice-by ShortName p = omega arith
-notice-by (Mode n) p = omega arith
-notice-by (Notice n) p = p .1
-
-pub notice-most : (token : List ℕ) (noted : Bool) → noticeOf (interpretationOf token noted) ≤ 15
-notice-most token noted = notice-by (interpretationOf token noted) (ranged token noted)

@@ -1,6 +1,7 @@
 -- A line by its first byte.
 use mathlib.Core.Path.{_≡_, refl, sym, _∙_}
-use Prim.Native.Nat.{ℕ}
+use Prim.Native.Nat.{ℕ, _≤_, _<_}
+use native.Mathlib.Nat.{not-suc-le-zero, le-of-suc-le-suc}
 use native.Mathlib.Omega.{arith}
 use mathlib.Core.List.{List, [], _∷_}
 use mathlib.Core.Bool.{Bool, true, false, _&&_, cond, and-true}
@@ -8,6 +9,7 @@ use lib.Dec.{eqb}
 use lib.ListN.{length, getD}
 use borrow.Author.Tests.{ne-eqb}
 use Rattle.slices.specs.Compare.{beginsWith, sameBytes}
+use Rattle.slices.proofs.CompareLaws.{begins-short}
 use Rattle.lines.specs.Lines.{kindOf}
 use Rattle.lines.specs.declared.Kind.{Kind}
 use Rattle.lines.specs.declared.Kind.the-variants.{Empty, Reference, Comment, Star, Bar, Data}
@@ -30,6 +32,13 @@ by-first (x ∷ s) some = rw (and-true (eqb x 42), and-true (eqb x 61)) (go (eqb
     go true b k = refl
     go false b k = refl
 
+three : (s : List ℕ) → 3 ≤ length s → beginsWith (33 ∷ 33 ∷ 33 ∷ []) s ≡ (eqb (getD s 0 0) 33 && (eqb (getD s 1 0) 33 && (eqb (getD s 2 0) 33 && true)))
+unfolding beginsWith
+three [] h = absurd (not-suc-le-zero h)
+three (x ∷ []) h = absurd (not-suc-le-zero (le-of-suc-le-suc h))
+three (x ∷ y ∷ []) h = absurd (not-suc-le-zero (le-of-suc-le-suc (le-of-suc-le-suc h)))
+three (x ∷ y ∷ z ∷ s) h = refl
+
 module _ (s : List ℕ) (some : length s ≡ 0 → ⊥) where
   pub kind-star : getD s 0 0 ≡ 42 → Star ≡ kindOf s
   kind-star e = sym (by-first s some ∙ rw e)
@@ -46,3 +55,17 @@ module _ (s : List ℕ) (some : length s ≡ 0 → ⊥) where
 
     pub kind-comment : beginsWith (33 ∷ 33 ∷ 33 ∷ []) s ≡ false → Comment ≡ kindOf s
     kind-comment e = sym (by-first s some ∙ rw (bang, e))
+
+    -- by the two bytes behind the first
+    pub kind-short : length s < 3 → Comment ≡ kindOf s
+    kind-short h = kind-comment (begins-short (33 ∷ 33 ∷ 33 ∷ []) s h)
+
+    module _ (long : 3 ≤ length s) where
+      pub kind-second : (getD s 1 0 ≡ 33 → ⊥) → Comment ≡ kindOf s
+      kind-second h = kind-comment (three s long ∙ rw (bang, ne-eqb (getD s 1 0) 33 h))
+
+      pub kind-third : getD s 1 0 ≡ 33 → (getD s 2 0 ≡ 33 → ⊥) → Comment ≡ kindOf s
+      kind-third e h = kind-comment (three s long ∙ rw (bang, e, ne-eqb (getD s 2 0) 33 h))
+
+      pub kind-bangs : getD s 1 0 ≡ 33 → getD s 2 0 ≡ 33 → Reference ≡ kindOf s
+      kind-bangs e h = kind-reference (three s long ∙ rw (bang, e, h))

@@ -24,11 +24,11 @@ piece-at {b} {s} {from} {e} h at = record {
   here = next-piece b from e s h at;
 }
 
--- the part of a slice from an index on
-pub rest : (s : List ℕ) (from : ℕ) → take (length s - from) (drop from s) ≡ drop from s
-rest s from = take-all (length s - from) (drop from s) (omega (arith, length-drop from s))
-
 pub end-past : (b : ℕ) (s : List ℕ) (from : ℕ) → length s < from → from ≡ pieceEnd b s from
 end-past b s from h =
     let none : drop from s ≡ [] = drop-of-length-le s {i = from} (omega arith) in
     sym (rw (none, index-none b, add-zero from))
+
+-- where the token that begins at `from` ends
+pub end-low : (s : List ℕ) (from e : ℕ) → from ≤ length s → e ≡ pieceEnd 9 s from → (from ≤ e) × (e ≤ length s)
+end-low s from e h at = let p : Piece 9 s from e = piece-at h at in (p .low, p .high)

@@ -9,6 +9,7 @@ use lib.ListN.{length, take, getD}
 use lib.Seq.{take-suc, take-length, length-take-le}
 use borrow.Author.Tests.{ne-eqb}
 use Rattle.lines.specs.Lines.{keep, withoutCRs}
+use Rattle.slices.proofs.PieceLaws.{last-at}
 
 cr-last : (xs : List ℕ) → withoutCRs (xs ++ (13 ∷ [])) ≡ withoutCRs xs
 unfolding withoutCRs keep
@@ -34,20 +35,15 @@ pub trim-first : {s : List ℕ} → Trim s (length s)
 trim-first {s} = record { high = omega arith; same = ap withoutCRs (sym (take-length s)) }
 
 module _ {s : List ℕ} {n : ℕ} (inv : Trim s n) where
-  last-at : 0 < n → take n s ≡ take (n - 1) s ++ (getD s (n - 1) 0 ∷ [])
-  last-at h =
-      let e : suc (n - 1) ≡ n = omega arith in
-      ap (λ (k : ℕ). take k s) (sym e) ∙ take-suc s (n - 1) 0 (omega arith)
-
   pub trim-turn : 0 < n → getD s (n - 1) 0 ≡ 13 → Trim s (n - 1)
   trim-turn h e = record {
     high = omega arith;
-    same = inv .same ∙ rw (last-at h, e) (cr-last (take (n - 1) s));
+    same = inv .same ∙ rw (last-at s n h (inv .high), e) (cr-last (take (n - 1) s));
   }
 
   pub trim-done : 0 < n → (getD s (n - 1) 0 ≡ 13 → ⊥) → (n ≡ length (withoutCRs s)) × (n ≤ length s)
   trim-done h other =
-      let whole : withoutCRs (take n s) ≡ take n s = rw (last-at h) (other-last (getD s (n - 1) 0) other (take (n - 1) s)) in
+      let whole : withoutCRs (take n s) ≡ take n s = rw (last-at s n h (inv .high)) (other-last (getD s (n - 1) 0) other (take (n - 1) s)) in
       (sym (ap length (inv .same ∙ whole) ∙ length-take-le n s (inv .high)), inv .high)
 
   pub trim-past : n ≤ 0 → (0 ≡ length (withoutCRs s)) × (0 ≤ length s)
@@ -69,3 +65,18 @@ content-take (x ∷ xs) = go (withoutCRs xs) (content-take xs)
     go : (w : List ℕ) → take (length w) xs ≡ w → take (length (keep x w)) (x ∷ xs) ≡ keep x w
     go [] e = one (eqb x 13)
     go (y ∷ ys) e = ap (λ (l : List ℕ). x ∷ l) e
+
+keep-short : (x : ℕ) (ys : List ℕ) → length (keep x ys) ≤ suc (length ys)
+unfolding keep
+keep-short x [] = go (eqb x 13)
+  where
+    go : (t : Bool) → length (cond t [] (x ∷ [])) ≤ 1
+    go true = omega arith
+    go false = omega arith
+keep-short x (y ∷ ys) = omega arith
+
+-- it is no longer than the line
+pub content-short : (s : List ℕ) → length (withoutCRs s) ≤ length s
+unfolding withoutCRs
+content-short [] = omega arith
+content-short (x ∷ xs) = omega (arith, keep-short x (withoutCRs xs), content-short xs)

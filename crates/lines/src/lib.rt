@@ -43,7 +43,10 @@ fn piece_end(s: &[u8], b: u8, from: usize) -> usize
 pub fn line_end(text: &[u8], from: usize) -> usize
     ensures { λ r. ⌜ r ≡ pieceEnd 10 (now (text .entry)) from ⌝ }
 {
-    piece_end(text, b'\n', from)
+    if text.len() < from {
+        return from;
+    }
+    from + slices::find_far(&text[from..], b'\n')
 }
 
 // The index of the next TAB from `from` on, or the length.
@@ -77,7 +80,13 @@ pub fn line_kind(line: &[u8]) -> Kind
     if first != b'!' {
         return Kind::Data;
     }
-    if slices::begins(line, b"!!!") {
+    if line.len() < 3 {
+        return Kind::Comment;
+    }
+    if line[1] != b'!' {
+        return Kind::Comment;
+    }
+    if line[2] == b'!' {
         return Kind::Reference;
     }
     Kind::Comment

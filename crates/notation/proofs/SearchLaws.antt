@@ -11,6 +11,7 @@ use lib.Seq.{take-all}
 use borrow.Author.Tests.{eq-eqb, ne-eqb}
 use Rattle.slices.proofs.SplitLaws.{at-index}
 use Rattle.notation.specs.Search.{contains, containsPair, trimStart}
+use Rattle.slices.proofs.PieceLaws.{rest}
 
 -- ---- a byte: `seen` says whether it stands before i
 pub record Seen (s : List ℕ) (b : ℕ) (seen : Bool) (i : ℕ) : Type 0 where
@@ -84,17 +85,14 @@ pub trim-first : {s : List ℕ} {b : ℕ} → Trim s b 0
 trim-first = record { high = omega arith; same = refl }
 
 module _ {s : List ℕ} {b i : ℕ} (inv : Trim s b i) where
-  rest : take (length s - i) (drop i s) ≡ drop i s
-  rest = take-all (length s - i) (drop i s) (simp length-drop (omega arith))
-
   pub trim-turn : i < length s → getD s i 0 ≡ b → Trim s b (i + 1)
   unfolding trimStart
   trim-turn h e = record { high = omega arith; same = inv .same ∙ rw (at-index s i h, eq-eqb _ _ e) }
 
   pub trim-done : i < length s → (getD s i 0 ≡ b → ⊥) → take (length s - i) (drop i s) ≡ trimStart b s
   unfolding trimStart
-  trim-done h e = rest ∙ sym (inv .same ∙ rw (at-index s i h, ne-eqb _ _ e))
+  trim-done h e = rest s i ∙ sym (inv .same ∙ rw (at-index s i h, ne-eqb _ _ e))
 
   pub trim-past : length s ≤ i → take (length s - i) (drop i s) ≡ trimStart b s
   unfolding trimStart
-  trim-past h = rest ∙ sym (inv .same ∙ rw (drop-of-length-le s h))
+  trim-past h = rest s i ∙ sym (inv .same ∙ rw (drop-of-length-le s h))

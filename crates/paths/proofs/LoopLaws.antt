@@ -21,32 +21,6 @@ use Rattle.paths.proofs.StepLaws.{next-length}
 
 -- ---- over the tokens
 
-starts-at : (ts : List PathToken) (i : ℕ) → startsExchange (drop i ts) ≡ isExchange (tokenAt ts i)
-starts-at ts i = go (drop i ts) ∙ ap isExchange (getD-drop i ts 0 Other ∙ ap (tokenAt ts) (omega arith))
-  where
-    go : (l : List PathToken) → startsExchange l ≡ isExchange (tokenAt l 0)
-    go [] = refl
-    go (t ∷ l) = refl
-
-head-at : (row : List Spine) (i : ℕ) (s : Spine) → headD (drop i row) s ≡ getD row i s
-unfolding headD
-head-at row i s = go (drop i row) ∙ getD-drop i row 0 s ∙ ap (λ (k : ℕ). getD row k s) (omega arith)
-  where
-    go : (l : List Spine) → headD l s ≡ getD l 0 s
-    go [] = refl
-    go (x ∷ l) = refl
-
--- a turn: the machine at column i gives what its token says, and goes on at the next
-pub walk-turn : (m : Mode) (l : Spine) (ts : List PathToken) (row : List Spine) (i : ℕ) → i < length ts → i < length row →
-    walk m l (drop i ts) (drop i row) ≡ emit (act m (tokenAt ts i) (isExchange (tokenAt ts (i + 1)))) l (spineAt row i)
-    (getD row (i + 1) (spineAt row i)) ++ walk (after m (tokenAt ts i) (isExchange (tokenAt ts (i + 1)))) (spineAt row i) (drop (i + 1) ts) (drop (i + 1) row)
-unfolding walk
-walk-turn m l ts row i h k = rw (add-one i, drop-cons ts i Other h, drop-cons row i outside k, starts-at ts (suc i), head-at row (suc i) (spineAt row i))
-
-pub walk-past : (m : Mode) (l : Spine) (ts : List PathToken) (row : List Spine) (i : ℕ) → length ts ≤ i → walk m l (drop i ts) row ≡ []
-unfolding walk
-walk-past m l ts row i h = rw (drop-of-length-le ts h)
-
 -- the next row is at most twice as long
 gives-le : (t : PathToken) (v : Bool) → givesOf t v ≤ 2
 unfolding givesOf
@@ -62,10 +36,6 @@ before-le : (ts : List PathToken) (i : ℕ) → before ts i ≤ 2 * i
 unfolding before gives
 before-le ts zero = omega arith
 before-le ts (suc i) = omega (arith, before-le ts i, gives-le (tokenAt ts i) (followsJoin ts i))
-
-pub next-length-le : (ts : List PathToken) (row : List Spine) → length ts ≡ length row → length (nextRow ts row) ≤ 2 * length row
-unfolding width
-next-length-le ts row e = omega (arith, next-length ts row e, before-le ts (length ts))
 
 -- ---- what is held, spine by spine as the row is written
 

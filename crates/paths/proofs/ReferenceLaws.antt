@@ -16,14 +16,7 @@ use Rattle.paths.specs.Reference.{Group, remains, splits, joins, exchang
 use Rattle.paths.proofs.Origins.{pick}
 use Rattle.paths.proofs.TraceLaws.{origin-below}
 use Rattle.paths.proofs.StepLaws.{next-at, branch-part}
-
-and-left : (a b : Bool) → (a && b) ≡ true → a ≡ true
-and-left true b e = refl
-and-left false b e = absurd (false≢true e)
-
-and-right : (a b : Bool) → (a && b) ≡ true → b ≡ true
-and-right true b e = e
-and-right false b e = absurd (false≢true e)
+use Rattle.slices.proofs.CompareLaws.{and-left, and-right}
 
 not-is : (a : Bool) → not a ≡ true → a ≡ false
 not-is true e = absurd (false≢true e)

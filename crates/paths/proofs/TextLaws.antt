@@ -48,7 +48,7 @@ header-settled (false ∷ h) n p = omega (arith, header-settled h n p)
 header-sound : (h : List Bool) → Sound (headerRow h)
 header-sound h = record { once = header-once h 0; low = header-low h 0; settled = header-settled h 0 }
 
-header-length : (n : ℕ) (h : List Bool) → length (headerFrom n h) ≡ length h
+pub header-length : (n : ℕ) (h : List Bool) → length (headerFrom n h) ≡ length h
 unfolding headerFrom
 header-length n [] = refl
 header-length n (true ∷ h) = ap suc (header-length (suc n) h)

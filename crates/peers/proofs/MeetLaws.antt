@@ -17,11 +17,11 @@ use Rattle.lines.specs.Lines.{pieceEnd}
 use Rattle.lines.specs.Tokens.{tokensOf}
 use Rattle.duration.specs.Duration.{durationOf, counts, digits}
 use Rattle.duration.specs.declared.Value.the-variants.{Missing}
-use Rattle.peers.specs.Peers.{offerOf, peersFrom, kernCells, peerDigits, Tally, none, one, broken, begunBy, met, tallyAt, settled}
+use Rattle.peers.specs.Peers.{offerOf, peersFrom, kernCells, peerDigits, Tally, none, one, broken, begunBy, met, tallyAt, settled, Offered}
 use Rattle.peers.specs.declared.Found.{Found}
 use Rattle.peers.specs.declared.Found.the-variants.{Empty, One, More, Broken}
 use Rattle.peers.proofs.OfferLaws.{offer-prefix}
-use Rattle.peers.proofs.TallyLaws.{tallied, tally-uniform}
+use Rattle.peers.proofs.TallyLaws.{tallied, tally-broken, tally-uniform}
 
 -- ---- the ways out of `meet`
 begun-none : (ds : List ℕ) → length ds ≡ 0 → broken ≡ begunBy ds
@@ -31,6 +31,10 @@ begun-none (x ∷ xs) h = cc
 begun-some : (ds : List ℕ) → (length ds ≡ 0 → ⊥) → one ds ≡ begunBy ds
 begun-some [] h = absurd (h refl)
 begun-some (x ∷ xs) h = refl
+
+-- a part of a line, from one index to another, as a piece of it
+pub cut : (line : List ℕ) (at len : ℕ) → take (at + len - at) (drop at line) ≡ pieceAt line at len
+cut line at len = let e : at + len - at ≡ len = omega arith in ap (λ (n : ℕ). take n (drop at line)) e
 
 -- the piece of the line is what is offered
 same-piece : (line : List ℕ) (from len n : ℕ) → n ≡ length (offerOf (pieceAt line from len)) → pieceAt line from n ≡ offerOf (pieceAt line from len)
@@ -56,6 +60,17 @@ module _ (line : List ℕ) (from len : ℕ) {t : List ℕ} (token : t ≡ pieceA
       ∙ begun-some (offerOf (pieceAt line from len)) (λ k. z (q ∙ k))
       ∙ ap (λ (f : Found). met (tallyAt line f) (pieceAt line from len)) (sym e)
 
+  pub first-inside : {n : ℕ} → n ≡ length (offerOf t) → from + len ≤ length line → from + n ≤ length line
+  first-inside {n} p h =
+      let l : length t ≡ length (take len (drop from line)) = ap length token in
+      omega (arith, length-take (length (offerOf t)) t, ap length (offer-prefix t), length-take len (drop from line))
+
+  pub first-offered : {n : ℕ} → n ≡ length (offerOf t) → (n ≡ 0 → ⊥) → Offered (pieceAt line from n)
+  first-offered {n} p z =
+      let q : n ≡ length (offerOf (pieceAt line from len)) = p ∙ ap (λ (l : List ℕ). length (offerOf l)) token in
+      let e : pieceAt line from n ≡ offerOf (pieceAt line from len) = same-piece line from len n q in
+      record { token = pieceAt line from len; same = e; some = λ k. z (q ∙ sym (ap length e) ∙ k) }
+
   module _ {found : Found} {at width : ℕ} where
     pub one-same : {a : Bool} → found ≡ One at width → a ≡ sameBytes (offerOf t) (pieceAt line at width) → a ≡ true
         → tallyAt line (More at width) ≡ met (tallyAt line found) (pieceAt line from len)
@@ -72,9 +87,6 @@ module _ (line : List ℕ) (from len : ℕ) {t : List ℕ} (token : t ≡ pieceA
     pub more-other : {a : Bool} → found ≡ More at width → a ≡ sameBytes (offerOf t) (pieceAt line at width) → a ≡ false
         → tallyAt line Broken ≡ met (tallyAt line found) (pieceAt line from len)
     more-other e p q = rw (e, ← token, sym p ∙ q)
-
-  pub still-broken : {found : Found} → found ≡ Broken → tallyAt line Broken ≡ met (tallyAt line found) (pieceAt line from len)
-  still-broken e = rw e
 
 -- ---- the loop over the columns
 pub record Passing (line row : List ℕ) (column from i : ℕ) (found : Found) : Type 0 where
@@ -132,13 +144,11 @@ pub no-value : durationOf [] ≡ Missing
 unfolding durationOf sameBytes counts digits
 no-value = refl
 
--- the digits of a neighbour and of a piece of the line
-pub agree-same : (t : List ℕ) {n : ℕ} {known other span : List ℕ} → n ≡ length (offerOf t) → known ≡ span → other ≡ take n (drop 0 t)
-    → sameBytes other known ≡ sameBytes (offerOf t) span
-agree-same t {n} e k o =
-    let p = o ∙ ap (λ (m : ℕ). take m t) e ∙ offer-prefix t in
-    rw (p, k)
-
--- a token ends within its line
-pub end-low : (line : List ℕ) (from e : ℕ) → from ≤ length line → e ≡ pieceEnd 9 line from → (from ≤ e) × (e ≤ length line)
-end-low line from e h q = omega (arith, index-inside 9 (drop from line), length-drop from line)
+-- once broken, it stays so
+pub broken-stop : {line row : List ℕ} {column from i : ℕ} {found : Found} → Passing line row column from i found → found ≡ Broken → [] ≡ peerDigits line row column
+broken-stop {line} {row} {column} {from} {i} inv e =
+    let rest : List (List ℕ) = peersFrom i column (pieces 9 from line) (kernCells (drop i row)) in
+    sym (tally-broken rest)
+    ∙ ap (λ (f : Found). settled (tallied (tallyAt line f) rest)) (sym e)
+    ∙ ap settled (sym (inv .same))
+    ∙ tally-uniform (peersFrom 0 column (tokensOf line) (kernCells row))

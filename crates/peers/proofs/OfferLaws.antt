@@ -166,6 +166,17 @@ offer-none t e = rw (e, value-none (durationOf [])) (go (forbids t) (eqb 0 (leng
     go false true = refl
     go false false = refl
 
+-- a token without a byte, or with another byte in front, offers none
+pub offer-empty : (t : List ℕ) → length t ≡ 0 → 0 ≡ length (offerOf t)
+unfolding leading
+offer-empty [] h = offer-none [] refl
+offer-empty (x ∷ xs) h = absurd (omega arith)
+
+pub offer-other : (t : List ℕ) {b : Bool} → (length t ≡ 0 → ⊥) → b ≡ isDigit (getD t 0 0) → b ≡ false → 0 ≡ length (offerOf t)
+unfolding leading
+offer-other [] h p q = absurd (h refl)
+offer-other (x ∷ xs) h p q = offer-none (x ∷ xs) (rw (sym p ∙ q))
+
 pub offer-prefix : (t : List ℕ) → take (length (offerOf t)) t ≡ offerOf t
 unfolding offerOf
 offer-prefix t = go (forbids t) (eqb (length (leading t)) (length t)) (durationOf (leading t))

@@ -10,7 +10,7 @@ abbrev pub tallied : Tally → List (List ℕ) → Tally
 tallied y [] = y
 tallied y (t ∷ ts) = tallied (met y t) ts
 
-tally-broken : (ts : List (List ℕ)) → settled (tallied broken ts) ≡ []
+pub tally-broken : (ts : List (List ℕ)) → settled (tallied broken ts) ≡ []
 tally-broken [] = refl
 tally-broken (t ∷ ts) = tally-broken ts
 

@@ -1,5 +1,6 @@
 -- The length that a token without one takes from its record: "missing lengths `uniform_peer_reciprocal`".
-use Prim.Native.Nat.{ℕ, suc}
+use mathlib.Core.Path.{_≡_}
+use Prim.Native.Nat.{ℕ, suc, _+_, _≤_}
 use mathlib.Core.List.{List, [], _∷_}
 use mathlib.Core.Bool.{Bool, true, false, cond, not, _&&_, _||_}
 use lib.Dec.{eqb, leb}
@@ -104,6 +105,19 @@ tallyAt line Empty = none
 tallyAt line (One at len) = one (pieceAt line at len)
 tallyAt line (More at len) = more (pieceAt line at len)
 tallyAt line Broken = broken
+
+-- digits that some token offers
+pub record Offered (ds : List ℕ) : Type 0 where
+  pub token : List ℕ
+  pub same : ds ≡ offerOf token
+  pub some : length ds ≡ 0 → ⊥
+
+-- what was met is offered, and stands inside the line
+abbrev pub Sound : List ℕ → Found → Type 0
+Sound line Empty = Unit
+Sound line (One at len) = Offered (pieceAt line at len) × (at + len ≤ length line)
+Sound line (More at len) = Offered (pieceAt line at len) × (at + len ≤ length line)
+Sound line Broken = Unit
 
 abbrev pub settled : Tally → List ℕ
 settled none = []

@@ -2,14 +2,14 @@
 use duration::Value;
 use items::Item;
 ghost use mathlib.Core.Path.{_≡_};
-ghost use mathlib.Core.Bool.{_&&_, not, cond};
+ghost use mathlib.Core.Bool.{true, _&&_, _||_, not, cond};
 ghost use Prim.Native.Nat.{_+_, _≤_};
 ghost use lib.Dec.{eqb, leb};
 ghost use lib.ListN.{length};
 ghost use Rattle.slices.specs.Compare.{sameBytes};
 ghost use Rattle.slices.specs.Split.{pieceAt};
 ghost use Rattle.duration.specs.Duration.{durationOf};
-ghost use Rattle.peers.specs.Peers.{onlySigns, isBare, forbids, offerOf, peerDigits, digitsAt, met, tallyAt, settled, ifSome};
+ghost use Rattle.peers.specs.Peers.{onlySigns, isBare, forbids, offerOf, peerDigits, digitsAt, met, tallyAt, settled, ifSome, Offered, Sound};
 
 // The digits that the neighbours offer: nothing, or a piece of the line.
 pub enum Peer {
@@ -31,7 +31,7 @@ fn only_signs(s: &[u8]) -> bool
 {
     let mut i = 0;
     while i < s.len() {
-        if notation::search::contains(b"#-n", s[i]) {
+        if token::scan::is_sign(s[i]) {
             i += 1;
         } else {
             return false;
@@ -55,21 +55,35 @@ pub fn is_bare(token: &[u8]) -> bool
     false
 }
 
+// Whether a byte is a blank, a point or a `%`.
+fn forbidden(b: u8) -> bool
+    ensures { λ r. ⌜ r ≡ (eqb b 32 || (eqb b 46 || eqb b 37)) ⌝ }
+{
+    if b == b' ' {
+        return true;
+    }
+    if b == b'.' {
+        return true;
+    }
+    b == b'%'
+}
+
 // Whether a blank, a point or a `%` stands in a token.
 fn forbids(token: &[u8]) -> bool
     ensures { λ r. ⌜ r ≡ forbids (now (token .entry)) ⌝ }
 {
-    if notation::search::contains(token, b' ') {
-        return true;
+    let mut i = 0;
+    while i < token.len() {
+        if forbidden(token[i]) {
+            return true;
+        }
+        i += 1;
     }
-    if notation::search::contains(token, b'.') {
-        return true;
-    }
-    notation::search::contains(token, b'%')
+    false
 }
 
-// How many digits a neighbour offers.
-fn offer(token: &[u8]) -> usize
+// How many digits a neighbour that begins with one offers.
+fn offer_digits(token: &[u8]) -> usize
     ensures { λ r. ⌜ r ≡ length (offerOf (now (token .entry))) ⌝ }
 {
     if forbids(token) {
@@ -100,6 +114,19 @@ fn offer(token: &[u8]) -> usize
     }
 }
 
+// How many digits a neighbour offers.
+fn offer(token: &[u8]) -> usize
+    ensures { λ r. ⌜ r ≡ length (offerOf (now (token .entry))) ⌝ }
+{
+    if token.len() == 0 {
+        return 0;
+    }
+    if items::is_digit(token[0]) {
+        return offer_digits(token);
+    }
+    0
+}
+
 // A number, or 0 for a missing value.
 fn if_value(v: Value, n: usize) -> usize
     ensures { λ r. ⌜ r ≡ ifSome v n ⌝ }
@@ -115,21 +142,34 @@ fn if_value(v: Value, n: usize) -> usize
     }
 }
 
-// Whether a neighbour offers the digits of a piece of the line.
+// Whether a neighbour offers the digits of a piece of the line, which another offers.
 fn agrees(line: &[u8], at: usize, len: usize, token: &[u8]) -> bool
+    requires { ⌜ Offered (pieceAt (now line) at len) × (at + len ≤ length (now line)) ⌝ }
     ensures { λ r. ⌜ r ≡ sameBytes (offerOf (now (token .entry))) (pieceAt (now (line .entry)) at len) ⌝ }
 {
-    let n = offer(token);
-    let known = slices::piece(line, at, len);
-    let other = slices::piece(token, 0, n);
-    slices::same(known, other)
+    let known = &line[at..at + len];
+    let n = known.len();
+    if token.len() <= n {
+        return false;
+    }
+    if items::is_digit(token[n]) {
+        return false;
+    }
+    if slices::begins(token, known) {
+        if forbids(token) {
+            return false;
+        }
+        return true;
+    }
+    false
 }
 
 // One neighbour more: the piece of the line from `from` on, `len` long.
 fn meet(line: &[u8], found: Found, from: usize, len: usize) -> Found
-    ensures { λ r. ⌜ tallyAt (now (line .entry)) r ≡ met (tallyAt (now (line .entry)) found) (pieceAt (now (line .entry)) from len) ⌝ }
+    requires { ⌜ Sound (now line) found × (from + len ≤ length (now line)) ⌝ }
+    ensures { λ r. ⌜ (tallyAt (now (line .entry)) r ≡ met (tallyAt (now (line .entry)) found) (pieceAt (now (line .entry)) from len)) × Sound (now (line .entry)) r ⌝ }
 {
-    let token = slices::piece(line, from, len);
+    let token = &line[from..from + len];
     match found {
         Found::Empty => {
             let n = offer(token);
@@ -166,7 +206,8 @@ fn pass(
     i: usize,
     column: usize,
 ) -> Found
-    ensures { λ r. ⌜ tallyAt (now (line .entry)) r ≡ cond (leb 8 cell && not (eqb i column)) (met (tallyAt (now (line .entry)) found) (pieceAt (now (line .entry)) from len)) (tallyAt (now (line .entry)) found) ⌝ }
+    requires { ⌜ Sound (now line) found × (from + len ≤ length (now line)) ⌝ }
+    ensures { λ r. ⌜ (tallyAt (now (line .entry)) r ≡ cond (leb 8 cell && not (eqb i column)) (met (tallyAt (now (line .entry)) found) (pieceAt (now (line .entry)) from len)) (tallyAt (now (line .entry)) found)) × Sound (now (line .entry)) r ⌝ }
 {
     if cell < 8 {
         return found;
@@ -189,6 +230,18 @@ fn settle(line: &[u8], found: Found) -> Peer
     }
 }
 
+// Whether neighbours that don't agree were met.
+fn is_broken(found: Found) -> bool
+    ensures { λ r. ⌜ (r ≡ true → found ≡ Found.Broken) ⌝ }
+{
+    match found {
+        Found::Empty => false,
+        Found::One { at: _, len: _ } => false,
+        Found::More { at: _, len: _ } => false,
+        Found::Broken => true,
+    }
+}
+
 // The digits that the neighbours of a column offer. A cell of the row is below 8 for a spine outside kern.
 pub fn peer_reciprocal(line: &[u8], row: &[u16], column: usize) -> Peer
     ensures { λ r. ⌜ digitsAt (now (line .entry)) r ≡ peerDigits (now (line .entry)) (now (row .entry)) column ⌝ }
@@ -199,6 +252,9 @@ pub fn peer_reciprocal(line: &[u8], row: &[u16], column: usize) -> Peer
     while i < row.len() {
         if line.len() < from {
             return settle(line, found);
+        }
+        if is_broken(found) {
+            return Peer::Nothing;
         }
         let end = lines::token_end(line, from);
         found = pass(line, found, from, end - from, row[i], i, column);

@@ -4,5 +4,7 @@ pub mod WhiteLaws
 pub mod CharacterLaws
 pub mod TrimLaws
 pub mod LoopLaws
+pub mod EndLaws
 pub mod SpanLaws
+pub mod KeyLaws
 pub mod ReferenceLaws

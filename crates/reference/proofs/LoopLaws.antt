@@ -16,6 +16,7 @@ use Rattle.reference.specs.Trim.{white, width, At, leadingWhite, trimmed
 use Rattle.reference.proofs.WhiteLaws.{white-ink}
 use Rattle.reference.proofs.CharacterLaws.{width-pos, width-inside, width-some}
 use Rattle.reference.proofs.TrimLaws.{leading-none, leading-more, leading-stop, end-none, end-white, end-here, end-more}
+use Rattle.slices.proofs.PieceLaws.{rest}
 
 -- ---- the loop of `leading_white`
 pub record Leading (s : List ℕ) (i : ℕ) : Type 0 where
@@ -47,24 +48,21 @@ end-past {s} {end} {i} inv h =
 
 -- ---- `character`: the text from i on, as the code lends it
 module _ (s : List ℕ) (i : ℕ) (h : i < length s) where
-  tail : take (length s - i) (drop i s) ≡ drop i s
-  tail = take-all (length s - i) (drop i s) (omega (arith, length-drop i s))
-
   fits : i + width (drop i s) ≤ length s
   fits = omega (arith, width-inside (drop i s) (omega (arith, length-drop i s)), length-drop i s)
 
   pub width-fits : {n : ℕ} → n ≡ width (take (length s - i) (drop i s)) → i + n ≤ length s
-  width-fits wide = rw (wide, tail) fits
+  width-fits wide = rw (wide, (rest s i)) fits
 
   pub character-at : {n p : ℕ} {b : Bool} → n ≡ width (take (length s - i) (drop i s)) → p ≡ codePoint (take (length s - i) (drop i s)) → b ≡ white p
       → At s i (i + n) b
   character-at {n} wide point test =
-      let n-is : n ≡ width (drop i s) = wide ∙ ap width tail in
+      let n-is : n ≡ width (drop i s) = wide ∙ ap width (rest s i) in
       record {
         less = omega (arith, width-pos (drop i s));
         inside = width-fits wide;
         wide = omega arith;
-        test = test ∙ ap white point ∙ ap (λ (l : List ℕ). white (codePoint l)) tail;
+        test = test ∙ ap white point ∙ ap (λ (l : List ℕ). white (codePoint l)) (rest s i);
       }
 
 -- ---- a turn of either loop
@@ -115,14 +113,22 @@ module _ {s : List ℕ} {i next : ℕ} {b : Bool} (c : At s i next b) where
           let not-none : trimmedEnd (drop i s) ≡ 0 → ⊥ = λ q. omega (arith, c .less, c .wide) in
           inv .same ∙ rw (ne-eqb (trimmedEnd (drop i s)) 0 not-none) (omega (arith, c .wide))
 
--- a printed ASCII character, found by its byte alone
-pub ink-turn : {s : List ℕ} {end i : ℕ} → End s end i → i < length s → 32 < getD s i 0 → getD s i 0 < 128 → End s (i + 1) (i + 1)
-ink-turn {s} {end} {i} inv h low high =
-    let b : ℕ = getD s i 0 in
-    let cons : drop i s ≡ b ∷ drop (i + 1) s = rw (add-one, drop-cons s i 0 h) in
-    let one : charLength (drop i s) ≡ 1 = ap charLength cons ∙ char-plain b (drop (i + 1) s) high in
-    let wide : width (drop i s) ≡ 1 = width-some (drop i s) 1 one (omega arith) in
-    let point : codePoint (drop i s) ≡ b = point-1 (drop i s) one ∙ ap (λ (l : List ℕ). getD l 0 0) cons in
-    let c : At s i (i + 1) false =
-    record { less = omega arith; inside = omega arith; wide = omega arith; test = sym (ap white point ∙ white-ink b low high) } in
-    end-turn c inv refl
+-- ---- an ASCII character, found by its byte alone
+module _ {s : List ℕ} {i : ℕ} (h : i < length s) (high : getD s i 0 < 128) where
+  ascii-at : (t : Bool) → white (getD s i 0) ≡ t → At s i (i + 1) t
+  ascii-at t w =
+      let b : ℕ = getD s i 0 in
+      let cons : drop i s ≡ b ∷ drop (i + 1) s = rw (add-one, drop-cons s i 0 h) in
+      let one : charLength (drop i s) ≡ 1 = ap charLength cons ∙ char-plain b (drop (i + 1) s) high in
+      let wide : width (drop i s) ≡ 1 = width-some (drop i s) 1 one (omega arith) in
+      let point : codePoint (drop i s) ≡ b = point-1 (drop i s) one ∙ ap (λ (l : List ℕ). getD l 0 0) cons in
+      record { less = omega arith; inside = omega arith; wide = omega arith; test = sym (ap white point ∙ w) }
+
+  pub ink-turn : {end : ℕ} → 32 < getD s i 0 → End s end i → End s (i + 1) (i + 1)
+  ink-turn low inv = end-turn (ascii-at false (white-ink (getD s i 0) low high)) inv refl
+
+  pub ink-stop : 32 < getD s i 0 → Leading s i → (i ≡ leadingWhite s) × (i ≤ length s)
+  ink-stop low inv = leading-done (ascii-at false (white-ink (getD s i 0) low high)) inv refl
+
+  pub space-turn : white (getD s i 0) ≡ true → Leading s i → Leading s (i + 1)
+  space-turn w inv = leading-turn (ascii-at true w) inv refl

@@ -45,6 +45,17 @@ white-ink c low high =
     is-false true h = absurd h
     is-false false h = refl
 
+-- the white ASCII characters
+pub white-blank : (c : ℕ) → c ≡ 32 → (white c ≡ true) × (c < 128)
+unfolding white
+white-blank c e = (ap white e, omega arith)
+
+pub white-space : (c : ℕ) → 9 ≤ c → leb c 13 ≡ true → (white c ≡ true) × (c < 128)
+unfolding white
+white-space c low t =
+    let high : c ≤ 13 = leb-true c 13 t in
+    (sym (white-run 9 5 tt c low (omega arith)), omega arith)
+
 outside : (lo hi c : ℕ) → (lo ≤ c → hi < c) → (leb lo c && leb c hi) ≡ false
 outside lo hi c h = go (leb lo c) refl
   where

@@ -1,8 +1,10 @@
 // Reference records, `!!!key: value`: the key and the value, without the white space around them.
 ghost use mathlib.Core.Path.{_≡_};
 ghost use mathlib.Core.Bool.{true};
+ghost use mathlib.Core.List.{[], _∷_};
 ghost use Prim.Native.Nat.{_+_, _-_, _≤_, _<_};
 ghost use lib.ListN.{length, take, drop};
+ghost use Rattle.slices.specs.Compare.{sameBytes};
 ghost use Rattle.reference.specs.Trim.{white, width, At, leadingWhite, trimmedEnd};
 ghost use Rattle.reference.specs.Reference.{keyOf, spanOf, referenceOf};
 
@@ -67,21 +69,6 @@ fn character(s: &[u8], i: usize) -> Turn
     Turn { next, blank }
 }
 
-// How many bytes the white characters at the front of s have.
-pub fn leading_white(s: &[u8]) -> usize
-    ensures { λ r. ⌜ (r ≡ leadingWhite (now (s .entry))) × (r ≤ length (now (s .entry))) ⌝ }
-{
-    let mut i = 0;
-    while i < s.len() {
-        let c = character(s, i);
-        if !c.blank {
-            return i;
-        }
-        i = c.next;
-    }
-    i
-}
-
 // Whether a byte is a printed ASCII character.
 fn ink(b: u8) -> bool
     ensures { λ r. ⌜ (r ≡ true → (32 < b) × (b < 128)) ⌝ }
@@ -92,8 +79,44 @@ fn ink(b: u8) -> bool
     b < 128
 }
 
-// Where s ends without the white characters at its end.
-pub fn trimmed_end(s: &[u8]) -> usize
+// Whether a byte is a white ASCII character.
+fn space(b: u8) -> bool
+    ensures { λ r. ⌜ (r ≡ true → (white b ≡ true) × (b < 128)) ⌝ }
+{
+    if b == 32 {
+        return true;
+    }
+    if b < 9 {
+        return false;
+    }
+    b <= 13
+}
+
+// How many bytes the white characters at the front of s have.
+pub fn leading_white(s: &[u8]) -> usize
+    ensures { λ r. ⌜ (r ≡ leadingWhite (now (s .entry))) × (r ≤ length (now (s .entry))) ⌝ }
+{
+    let mut i = 0;
+    while i < s.len() {
+        let b = s[i];
+        if ink(b) {
+            return i;
+        }
+        if space(b) {
+            i += 1;
+        } else {
+            let c = character(s, i);
+            if !c.blank {
+                return i;
+            }
+            i = c.next;
+        }
+    }
+    i
+}
+
+// Where s ends without the white characters at its end, character by character from the front.
+fn last_end(s: &[u8]) -> usize
     ensures { λ r. ⌜ (r ≡ trimmedEnd (now (s .entry))) × (r ≤ length (now (s .entry))) ⌝ }
 {
     let mut end = 0;
@@ -113,6 +136,25 @@ pub fn trimmed_end(s: &[u8]) -> usize
     end
 }
 
+// Where s ends without the white characters at its end; from the end, as long as they are ASCII.
+pub fn trimmed_end(s: &[u8]) -> usize
+    ensures { λ r. ⌜ (r ≡ trimmedEnd (now (s .entry))) × (r ≤ length (now (s .entry))) ⌝ }
+{
+    let mut n = s.len();
+    while 0 < n {
+        let b = s[n - 1];
+        if ink(b) {
+            return n;
+        }
+        if space(b) {
+            n -= 1;
+        } else {
+            return last_end(&s[..n]);
+        }
+    }
+    0
+}
+
 // The piece of s from `from` to `to`, without the white space at its ends.
 fn trim(s: &[u8], from: usize, to: usize) -> Span
     requires { ⌜ (from ≤ to) × (to ≤ length (now s)) ⌝ }
@@ -130,17 +172,33 @@ fn trim(s: &[u8], from: usize, to: usize) -> Span
     }
 }
 
+// Whether k is exactly three bytes.
+fn spells(k: &[u8], a: u8, b: u8, c: u8) -> bool
+    ensures { λ r. ⌜ r ≡ sameBytes (a ∷ b ∷ c ∷ []) (now (k .entry)) ⌝ }
+{
+    if k.len() != 3 {
+        return false;
+    }
+    if k[0] != a {
+        return false;
+    }
+    if k[1] != b {
+        return false;
+    }
+    k[2] == c
+}
+
 // What a trimmed key names.
 pub fn key_of(k: &[u8]) -> Key
     ensures { λ r. ⌜ r ≡ keyOf (now (k .entry)) ⌝ }
 {
-    if slices::same(k, b"OTL") {
+    if spells(k, b'O', b'T', b'L') {
         return Key::Title;
     }
-    if slices::same(k, b"COM") {
+    if spells(k, b'C', b'O', b'M') {
         return Key::Composer;
     }
-    if slices::same(k, b"LYR") {
+    if spells(k, b'L', b'Y', b'R') {
         return Key::Lyricist;
     }
     Key::Other

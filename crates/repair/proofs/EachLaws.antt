@@ -15,7 +15,7 @@ use Rattle.slices.specs.Ascii.{ascii}
 use Rattle.lines.specs.Lines.{pieceEnd}
 use Rattle.lines.specs.Tokens.{tokensOf, isStar}
 use Rattle.lines.proofs.PieceLaws.{Piece}
-use Rattle.repair.specs.Repair.{each, firstOf, isBar}
+use Rattle.repair.specs.Repair.{each, firstOf, isBar, isOrdinary, identicalBars}
 
 -- what the test says of all tokens is what it says of those from `from` on
 pub record Each (test : List ℕ → Bool) (s : List ℕ) (all : Bool) (from : ℕ) : Type 0 where
@@ -129,3 +129,14 @@ first-token s e h =
 pub bar-first : (s : List ℕ) → isBar s ≡ isBar (firstOf (tokensOf s))
 unfolding isBar
 bar-first s = begins-first 61 (λ e. omega arith) s
+
+-- a line that begins neither `*` nor `=` is not filled
+pub not-ordinary : (line : List ℕ) → isStar line ≡ false → each isOrdinary (tokensOf line) ≡ false
+unfolding headD each isOrdinary
+not-ordinary line e =
+    let f : isStar (take (indexOf 9 line) line) ≡ false = rw (first-piece 9 line) at (sym (star-first line) ∙ e) in
+    rw (first-piece 9 line, f)
+
+pub not-bars : (ts : List (List ℕ)) → isBar (firstOf ts) ≡ false → identicalBars ts ≡ false
+unfolding identicalBars
+not-bars ts e = rw e

@@ -17,6 +17,7 @@ use Rattle.repair.specs.Record.{recordOf}
 use Rattle.repair.specs.declared.Repair.{Repair}
 use Rattle.repair.specs.declared.Repair.the-variants.{Whole, Cut, Stars, Bars}
 use Rattle.repair.specs.declared.Repaired.the-variants.{Uneven, Mixed, Even}
+use Rattle.slices.proofs.CompareLaws.{and-left, and-right}
 
 -- what holds where a repair applies
 abbrev pub Applies : ℕ → List (List ℕ) → Repair → Type 0
@@ -24,14 +25,6 @@ Applies n ts Whole = Unit
 Applies n ts Cut = n < length ts
 Applies n ts Stars = length ts < n
 Applies n ts Bars = (length ts < n) × (identicalBars ts ≡ true)
-
-left-of : (x y : Bool) → (x && y) ≡ true → x ≡ true
-left-of true y e = refl
-left-of false y e = e
-
-right-of : (x y : Bool) → (x && y) ≡ true → y ≡ true
-right-of true y e = e
-right-of false y e = cc
 
 -- neither 7 nor an even record is an uneven one
 passed : {k : ℕ} (r : Repair) (x : Bool) → cond x Mixed (Even r) ≡ Uneven k → ⊥
@@ -45,19 +38,19 @@ module _ (n : ℕ) (ts : List (List ℕ)) where
     where
       bars : (b : Bool) → (ltb (length ts) n && (leb 2 (length ts) && identicalBars ts)) ≡ b → Applies n ts (cond b Bars Whole)
       bars true e = (
-        ltb-true (length ts) n (left-of (ltb (length ts) n) (leb 2 (length ts) && identicalBars ts) e),
-        right-of (leb 2 (length ts)) (identicalBars ts) (right-of (ltb (length ts) n) (leb 2 (length ts) && identicalBars ts) e),
+        ltb-true (length ts) n (and-left (ltb (length ts) n) (leb 2 (length ts) && identicalBars ts) e),
+        and-right (leb 2 (length ts)) (identicalBars ts) (and-right (ltb (length ts) n) (leb 2 (length ts) && identicalBars ts) e),
       )
       bars false e = tt
 
       stars : (b : Bool) → (ltb (length ts) n && each isOrdinary ts) ≡ b →
           Applies n ts (cond b Stars (cond (ltb (length ts) n && (leb 2 (length ts) && identicalBars ts)) Bars Whole))
-      stars true e = ltb-true (length ts) n (left-of (ltb (length ts) n) (each isOrdinary ts) e)
+      stars true e = ltb-true (length ts) n (and-left (ltb (length ts) n) (each isOrdinary ts) e)
       stars false e = bars (ltb (length ts) n && (leb 2 (length ts) && identicalBars ts)) refl
 
       cut : (b : Bool) → (ltb n (length ts) && each isEmpty (drop n ts)) ≡ b →
           Applies n ts (cond b Cut (cond (ltb (length ts) n && each isOrdinary ts) Stars (cond (ltb (length ts) n && (leb 2 (length ts) && identicalBars ts)) Bars Whole)))
-      cut true e = ltb-true n (length ts) (left-of (ltb n (length ts)) (each isEmpty (drop n ts)) e)
+      cut true e = ltb-true n (length ts) (and-left (ltb n (length ts)) (each isEmpty (drop n ts)) e)
       cut false e = stars (ltb (length ts) n && each isOrdinary ts) refl
 
   -- a repair makes the widths equal

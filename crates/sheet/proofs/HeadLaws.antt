@@ -17,7 +17,3 @@ head-length h = refl
 pub head-back : {h : Head} → HeadFits h → (rest : List ℕ) → headOf (headBytes h ++ rest) ≡ h
 unfolding headBytes headOf
 head-back f rest = rw (back2 (f .parts), back4 (f .length), back4 (f .notes))
-
-pub head-bytes : (h : Head) → All u8 (headBytes h)
-unfolding headBytes
-head-bytes h = omega arith

@@ -17,10 +17,6 @@ pub note-length : (n : Note) → length (noteBytes n) ≡ 28
 unfolding noteBytes
 note-length n = refl
 
-pub pitch-length : (p : Pitch) → length (pitchBytes p) ≡ 3
-unfolding pitchBytes
-pitch-length p = refl
-
 pub pitches-length : (ps : List Pitch) → length (pitchesBytes ps) ≡ 3 * length ps
 unfolding pitchesBytes pitchBytes
 pitches-length [] = refl

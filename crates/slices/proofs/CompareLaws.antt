@@ -12,16 +12,24 @@ use lib.Seq.{drop-cons}
 use borrow.Author.Tests.{eq-eqb, ne-eqb, eqb-true}
 use Rattle.slices.specs.Compare.{beginsWith, sameBytes}
 
+and-not : (a : Bool) {b : Bool} → b ≡ false → (a && b) ≡ false
+and-not true q = q
+and-not false q = refl
+
+pub and-left : (a b : Bool) → (a && b) ≡ true → a ≡ true
+and-left true b e = refl
+and-left false b e = e
+
+pub and-right : (a b : Bool) → (a && b) ≡ true → b ≡ true
+and-right true b e = e
+and-right false b e = cc
+
 -- a shorter list doesn't begin with a longer one
 pub begins-short : (p s : List ℕ) → length s < length p → beginsWith p s ≡ false
 unfolding beginsWith
 begins-short [] s h = absurd (not-suc-le-zero h)
 begins-short (x ∷ p) [] h = refl
-begins-short (x ∷ p) (y ∷ s) h = and-short (eqb y x) (begins-short p s (le-of-suc-le-suc h))
-  where
-    and-short : (a : Bool) {b : Bool} → b ≡ false → (a && b) ≡ false
-    and-short true e = e
-    and-short false e = refl
+begins-short (x ∷ p) (y ∷ s) h = and-not (eqb y x) (begins-short p s (le-of-suc-le-suc h))
 
 -- of equal lengths, beginning with is being the same
 pub same-begins : (p s : List ℕ) → length s ≡ length p → sameBytes p s ≡ beginsWith p s
@@ -37,10 +45,6 @@ same-short [] [] e = absurd (e refl)
 same-short [] (y ∷ s) e = refl
 same-short (x ∷ p) [] e = refl
 same-short (x ∷ p) (y ∷ s) e = and-not (eqb y x) (same-short p s (λ q. e (ap suc q)))
-  where
-    and-not : (a : Bool) {b : Bool} → b ≡ false → (a && b) ≡ false
-    and-not true q = q
-    and-not false q = refl
 
 -- the loop of `begins`: what is left from i on decides
 pub record Begins (p s : List ℕ) (i : ℕ) : Type 0 where

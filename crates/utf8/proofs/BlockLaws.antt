@@ -41,22 +41,27 @@ run-four s i h =
     let q : _ = or-small (getD s i 0) (getD s (i + 1) 0) (p .0) in
     run-join s i 3 1 (run-join s i 2 1 (run-join s i 1 1 (run-one s i (q .0)) (run-one s (i + 1) (q .1))) (run-one s (i + 2) (p .1))) (run-one s (i + 3) (o .1))
 
-pub run-sixteen : (s : List ℕ) (i a b c d : ℕ) → (a < 128 → Run s i 4) → (b < 128 → Run s (i + 4) 4) → (c < 128 → Run s (i + 8) 4)
-    → (d < 128 → Run s (i + 12) 4) → bitOr (bitOr (bitOr a b) c) d < 128 → Run s i 16
-run-sixteen s i a b c d fa fb fc fd h =
+-- four times m bytes
+pub run-parts : (s : List ℕ) (i m : ℕ) {a b c d : ℕ} → (a < 128 → Run s i m) → (b < 128 → Run s (i + m) m) → (c < 128 → Run s (i + (m + m)) m)
+    → (d < 128 → Run s (i + (m + m + m)) m) → bitOr (bitOr (bitOr a b) c) d < 128 → Run s i (m + m + m + m)
+run-parts s i m {a} {b} {c} {d} fa fb fc fd h =
     let o : _ = or-small (bitOr (bitOr a b) c) d h in
     let p : _ = or-small (bitOr a b) c (o .0) in
     let q : _ = or-small a b (p .0) in
-    run-join s i 12 4 (run-join s i 8 4 (run-join s i 4 4 (fa (q .0)) (fb (q .1))) (fc (p .1))) (fd (o .1))
+    run-join s i (m + m + m) m (run-join s i (m + m) m (run-join s i m m (fa (q .0)) (fb (q .1))) (fc (p .1))) (fd (o .1))
 
--- the loop of `blocks`
+-- the loops of `blocks_64` and `blocks`
 pub blocks-first : {s : List ℕ} {from : ℕ} → from ≤ length s → Passed s from from
 blocks-first h = record { low = omega arith; high = h; same = omega arith }
 
-pub blocks-turn : {s : List ℕ} {from i : ℕ} → Passed s from i → 16 ≤ length s - i → Run s i 16 → Passed s from (i + 16)
-blocks-turn {s} {from} {i} inv h run =
-    let fits : i + 16 ≤ length s = omega arith in
-    record { low = omega (arith, inv .low); high = fits; same = omega (arith, inv .low, inv .same, length-plain 16 i s fits run) }
+pub blocks-turn : {s : List ℕ} {from i : ℕ} → Passed s from i → (n : ℕ) → n ≤ length s - i → Run s i n → Passed s from (i + n)
+blocks-turn {s} {from} {i} inv n h run =
+    let fits : i + n ≤ length s = omega (arith, inv .high) in
+    record { low = omega (arith, inv .low); high = fits; same = omega (arith, inv .low, inv .same, length-plain n i s fits run) }
+
+-- one part behind the other
+pub blocks-on : {s : List ℕ} {from i r : ℕ} → Passed s from i → Passed s i r → Passed s from r
+blocks-on p q = record { low = omega (arith, p .low, q .low); high = q .high; same = omega (arith, p .low, q .low, p .same, q .same) }
 
 -- the loop of `utf8_length`
 pub record Chars (s : List ℕ) (i : ℕ) : Type 0 where

@@ -113,27 +113,70 @@ fn joined(s: &[u8], i: usize) -> u8
     s[i] | s[i + 1] | s[i + 2] | s[i + 3]
 }
 
-// Whether the 16 bytes from i on are below 128.
-fn plain(s: &[u8], i: usize) -> bool
+// The 16 bytes from i on, joined bit by bit.
+fn joined_16(s: &[u8], i: usize) -> u8
     requires { ⌜ i + 16 ≤ length (now s) ⌝ }
-    ensures { λ r. ⌜ (r ≡ true → (k : ℕ) → k < 16 → getD (now (s .entry)) (i + k) 0 < 128) ⌝ }
+    ensures { λ r. ⌜ (r < 128 → (k : ℕ) → k < 16 → getD (now (s .entry)) (i + k) 0 < 128) ⌝ }
 {
-    (joined(s, i) | joined(s, i + 4) | joined(s, i + 8) | joined(s, i + 12)) < 128
+    joined(s, i) | joined(s, i + 4) | joined(s, i + 8) | joined(s, i + 12)
 }
 
-// Where the blocks of 16 bytes below 128 from `from` on end.
-fn blocks(s: &[u8], from: usize) -> usize
+// The 64 bytes from i on, joined bit by bit.
+fn joined_64(s: &[u8], i: usize) -> u8
+    requires { ⌜ i + 64 ≤ length (now s) ⌝ }
+    ensures { λ r. ⌜ (r < 128 → (k : ℕ) → k < 64 → getD (now (s .entry)) (i + k) 0 < 128) ⌝ }
+{
+    joined_16(s, i) | joined_16(s, i + 16) | joined_16(s, i + 32) | joined_16(s, i + 48)
+}
+
+// Where the blocks of 64 bytes below 128 from `from` on end.
+fn blocks_64(s: &[u8], from: usize) -> usize
     requires { ⌜ from ≤ length (now s) ⌝ }
     ensures { λ r. ⌜ Passed (now (s .entry)) from r ⌝ }
 {
     let mut i = from;
+    while 64 <= s.len() - i {
+        if 128 <= joined_64(s, i) {
+            return i;
+        }
+        i += 64;
+    }
+    i
+}
+
+// Where the blocks of 16 bytes below 128 from `from` on end; behind the first, blocks of 64.
+fn blocks(s: &[u8], from: usize) -> usize
+    requires { ⌜ from ≤ length (now s) ⌝ }
+    ensures { λ r. ⌜ Passed (now (s .entry)) from r ⌝ }
+{
+    if s.len() - from < 16 {
+        return from;
+    }
+    if 128 <= joined_16(s, from) {
+        return from;
+    }
+    let mut i = blocks_64(s, from + 16);
     while 16 <= s.len() - i {
-        if !plain(s, i) {
+        if 128 <= joined_16(s, i) {
             return i;
         }
         i += 16;
     }
     i
+}
+
+// The same where the byte at `from` is below 128, else `from`.
+fn onward(s: &[u8], from: usize) -> usize
+    requires { ⌜ from ≤ length (now s) ⌝ }
+    ensures { λ r. ⌜ Passed (now (s .entry)) from r ⌝ }
+{
+    if from == s.len() {
+        return from;
+    }
+    if 128 <= s[from] {
+        return from;
+    }
+    blocks(s, from)
 }
 
 // The length of the longest well-formed part of s from its start.
@@ -149,7 +192,7 @@ pub fn utf8_length(s: &[u8]) -> usize
         if n == 1 {
             i += 1;
         } else {
-            i = blocks(s, i + n);
+            i = onward(s, i + n);
         }
     }
     i

@@ -1,8 +1,9 @@
 -- The end of the piece from `from` on: a search of the rest of the slice, or `from` itself past the end.
-use Rattle.lines.proofs.PieceLaws.{end-past, rest}
+use Rattle.lines.proofs.PieceLaws.{end-past}
 use borrow.Author.Needs.{needs}
 use Rattle.lines.proofs.piece_end.Statement.{statement}
 use Rattle.lines.proofs.piece_end.Tie as tie
+use Rattle.slices.proofs.PieceLaws.{rest}
 
 returns : tie.Need-returns
 returns c = end-past _ _ _ (c .if1 .taken)

@@ -1,38 +1,53 @@
--- Any of three bytes.
-use mathlib.Core.Path.{sym, _∙_}
-use Rattle.peers.specs.Peers.{forbids}
-use borrow.Author.Needs.{needs}
+-- No forbidden byte stands before i: what is left from i on decides.
+use mathlib.Core.Path.{refl}
+use Prim.Native.Nat.{_-_}
+use native.Mathlib.Omega.{arith}
+use lib.ListN.{length}
+use Rattle.peers.proofs.AgreeLaws.{Forbids, forbids-turn, forbids-here, forbids-past}
 use Rattle.peers.proofs.forbids.Statement.{statement}
 use Rattle.peers.proofs.forbids.Tie as tie
 
-contains-requires : tie.Need-contains-requires
-contains-requires c κs = search needs
+abbrev Inv-loop : tie.InvT-loop
+Inv-loop token i₀ i = Forbids token i
 
-returns : tie.Need-returns
-unfolding forbids
-returns c = rw (sym (c .before .contains .ensures) ∙ c .if1 .taken)
+abbrev μ-loop : tie.MeasureT-loop
+μ-loop token i₀ i = length token - i
 
-contains-requires-2 : tie.Need-contains-requires-2
-contains-requires-2 c κs = search needs
+loop-holds : tie.Need-loop-holds Inv-loop μ-loop
+loop-holds c = record { high = omega arith; same = refl }
 
-returns-2 : tie.Need-returns-2
-unfolding forbids
-returns-2 c = rw (sym (c .before .before .before .contains .ensures) ∙ c .before .before .if1 .left, sym (c .before .contains2 .ensures) ∙ c .if2 .taken)
+shared-slice-read-forbidden : tie.Need-shared-slice-read-forbidden Inv-loop μ-loop
+shared-slice-read-forbidden c = omega arith
 
-contains-requires-3 : tie.Need-contains-requires-3
-contains-requires-3 c κs = search needs
+forbidden-requires : tie.Need-forbidden-requires Inv-loop μ-loop
+forbidden-requires c κs = tt
 
-returns-3 : tie.Need-returns-3
-unfolding forbids
-returns-3 c = rw (sym (c .before .before .before .before .contains .ensures) ∙ c .before .before .before .if1 .left, sym (c .before .before .contains2 .ensures) ∙ c .before .if2 .left) (c .contains3 .ensures)
+returns : tie.Need-returns Inv-loop μ-loop
+returns c = forbids-here (c .before .before .before .before .loop .inv) (c .before .before .before .loop-test .taken) (c .before .forbidden .ensures) (c .if1 .taken)
+
+add-i : tie.Need-add-i Inv-loop μ-loop
+add-i c = omega arith
+
+loop-less : tie.Need-loop-less Inv-loop μ-loop
+loop-less c = omega arith
+
+loop-again : tie.Need-loop-again Inv-loop μ-loop
+loop-again c = forbids-turn (c .before .before .before .before .loop .inv) (c .before .before .before .loop-test .taken) (c .before .forbidden .ensures) (c .if1 .left)
+
+returns-2 : tie.Need-returns-2 Inv-loop μ-loop
+returns-2 c = forbids-past (c .before .loop .inv) (c .loop-test .left)
 
 pub forbids-spec : {M : Type 1} → statement M
 forbids-spec =
     tie.close
     (tie.spec
-    contains-requires
+    Inv-loop
+    μ-loop
+    loop-holds
+    shared-slice-read-forbidden
+    forbidden-requires
     returns
-    contains-requires-2
-    returns-2
-    contains-requires-3
-    returns-3)
+    add-i
+    loop-less
+    loop-again
+    returns-2)

@@ -3,28 +3,24 @@ use mathlib.Core.Path.{refl}
 use Prim.Native.Nat.{_-_}
 use native.Mathlib.Omega.{arith}
 use lib.ListN.{length}
-use borrow.Author.Needs.{needs}
 use Rattle.peers.proofs.OfferLaws.{Signs, sign-turn, sign-not, sign-past}
 use Rattle.peers.proofs.only_signs.Statement.{statement}
 use Rattle.peers.proofs.only_signs.Tie as tie
 
 abbrev Inv-loop : tie.InvT-loop
-Inv-loop s i₀ t3 i = Signs s i
+Inv-loop s i₀ i = Signs s i
 
 abbrev μ-loop : tie.MeasureT-loop
-μ-loop s i₀ t3 i = length s - i
+μ-loop s i₀ i = length s - i
 
 loop-holds : tie.Need-loop-holds Inv-loop μ-loop
 loop-holds c = record { high = omega arith; same = refl }
 
-slice-aggregate-contains : tie.Need-slice-aggregate-contains Inv-loop μ-loop
-slice-aggregate-contains c = search needs
+shared-slice-read-is-sign : tie.Need-shared-slice-read-is-sign Inv-loop μ-loop
+shared-slice-read-is-sign c = omega arith
 
-shared-slice-read-contains : tie.Need-shared-slice-read-contains Inv-loop μ-loop
-shared-slice-read-contains c = omega arith
-
-contains-requires : tie.Need-contains-requires Inv-loop μ-loop
-contains-requires c κs = search needs
+is-sign-requires : tie.Need-is-sign-requires Inv-loop μ-loop
+is-sign-requires c κs = tt
 
 add-i : tie.Need-add-i Inv-loop μ-loop
 add-i c = omega arith
@@ -33,10 +29,10 @@ loop-less : tie.Need-loop-less Inv-loop μ-loop
 loop-less c = omega arith
 
 loop-again : tie.Need-loop-again Inv-loop μ-loop
-loop-again c = sign-turn (c .before .before .before .before .before .loop .inv) (c .before .before .before .before .loop-test .taken) (c .before .contains .ensures) (c .if1 .taken)
+loop-again c = sign-turn (c .before .before .before .before .loop .inv) (c .before .before .before .loop-test .taken) (c .before .is-sign .ensures) (c .if1 .taken)
 
 returns : tie.Need-returns Inv-loop μ-loop
-returns c = sign-not (c .before .before .before .before .before .loop .inv) (c .before .before .before .before .loop-test .taken) (c .before .contains .ensures) (c .if1 .left)
+returns c = sign-not (c .before .before .before .before .loop .inv) (c .before .before .before .loop-test .taken) (c .before .is-sign .ensures) (c .if1 .left)
 
 returns-2 : tie.Need-returns-2 Inv-loop μ-loop
 returns-2 c = sign-past (c .before .loop .inv) (c .loop-test .left)
@@ -48,9 +44,8 @@ only-signs-spec =
     Inv-loop
     μ-loop
     loop-holds
-    slice-aggregate-contains
-    shared-slice-read-contains
-    contains-requires
+    shared-slice-read-is-sign
+    is-sign-requires
     add-i
     loop-less
     loop-again

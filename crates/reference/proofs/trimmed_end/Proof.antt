@@ -1,53 +1,55 @@
--- `trimmed_end`: the text ends where what stays from i on ends, or at `end` where nothing stays there.
-use Prim.Native.Nat.{_-_}
+-- `trimmed_end`: what stands from n on is white.
+use mathlib.Core.Path.{sym}
 use native.Mathlib.Omega.{arith}
-use lib.ListN.{length}
-use borrow.Author.Tests.{not-true, not-false}
-use Rattle.reference.proofs.LoopLaws.{End, end-start, ink-turn, end-turn, end-turn-white, end-past}
+use lib.Seq.{length-take-le}
+use Rattle.reference.proofs.EndLaws.{Ending, ending-first, ending-turn, ending-done, ending-rest, ending-past}
 use Rattle.reference.proofs.trimmed_end.Statement.{statement}
 use Rattle.reference.proofs.trimmed_end.Tie as tie
 
 abbrev Inv-loop : tie.InvT-loop
-Inv-loop s end₀ i₀ end i = End s end i
+Inv-loop s n₀ n = Ending s n
 
 abbrev μ-loop : tie.MeasureT-loop
-μ-loop s end₀ i₀ end i = length s - i
+μ-loop s n₀ n = n
 
 loop-holds : tie.Need-loop-holds Inv-loop μ-loop
-loop-holds c = end-start
+loop-holds c = ending-first
 
-shared-slice-read-ink : tie.Need-shared-slice-read-ink Inv-loop μ-loop
-shared-slice-read-ink c = omega arith
+sub-b : tie.Need-sub-b Inv-loop μ-loop
+sub-b c = omega arith
+
+shared-slice-read-b : tie.Need-shared-slice-read-b Inv-loop μ-loop
+shared-slice-read-b c = omega arith
 
 ink-requires : tie.Need-ink-requires Inv-loop μ-loop
 ink-requires c κs = tt
 
-add-i : tie.Need-add-i Inv-loop μ-loop
-add-i c = omega arith
+returns : tie.Need-returns Inv-loop μ-loop
+returns c = ending-done (c .before .before .before .before .loop .inv) (c .before .before .before .loop-test .taken) (c .before .ink .ensures (c .if1 .taken) .0) (c .before .ink .ensures (c .if1 .taken) .1)
+
+space-requires : tie.Need-space-requires Inv-loop μ-loop
+space-requires c κs = tt
+
+sub-n : tie.Need-sub-n Inv-loop μ-loop
+sub-n c = omega arith
 
 loop-less : tie.Need-loop-less Inv-loop μ-loop
 loop-less c = omega arith
 
 loop-again : tie.Need-loop-again Inv-loop μ-loop
-loop-again c = ink-turn (c .before .before .before .before .loop .inv) (c .before .before .before .loop-test .taken) (c .before .ink .ensures (c .if1 .taken) .0) (c .before .ink .ensures (c .if1 .taken) .1)
+loop-again c = ending-turn (c .before .before .before .before .before .before .loop .inv) (c .before .before .before .before .before .loop-test .taken) (c .before .space .ensures (c .if2 .taken) .0) (c .before .space .ensures (c .if2 .taken) .1)
 
-character-requires : tie.Need-character-requires Inv-loop μ-loop
-character-requires c κs = c .before .before .before .loop-test .taken
+slice-aggregate-last-end : tie.Need-slice-aggregate-last-end Inv-loop μ-loop
+slice-aggregate-last-end c = sym (length-take-le _ _ (c .before .before .before .before .before .before .before .loop .inv .high))
 
-loop-less-2 : tie.Need-loop-less-2 Inv-loop μ-loop
-loop-less-2 c = omega (arith, c .before .before .character .ensures .less, c .before .before .before .before .before .before .loop-test .taken)
+last-end-requires : tie.Need-last-end-requires Inv-loop μ-loop
+last-end-requires c κs = tt
 
-loop-again-2 : tie.Need-loop-again-2 Inv-loop μ-loop
-loop-again-2 c = end-turn (c .before .before .character .ensures) (c .before .before .before .before .before .before .before .loop .inv) (not-true _ (c .if2 .taken))
+returns-2 : tie.Need-returns-2 Inv-loop μ-loop
+returns-2 c = ending-rest (c .before .before .before .before .before .before .before .before .loop .inv) (c .last-end .ensures)
 
-loop-less-3 : tie.Need-loop-less-3 Inv-loop μ-loop
-loop-less-3 c = omega (arith, c .before .before .character .ensures .less, c .before .before .before .before .before .before .loop-test .taken)
-
-loop-again-3 : tie.Need-loop-again-3 Inv-loop μ-loop
-loop-again-3 c = end-turn-white (c .before .before .character .ensures) (c .before .before .before .before .before .before .before .loop .inv) (not-false _ (c .if2 .left))
-
-returns : tie.Need-returns Inv-loop μ-loop
-returns c = end-past (c .before .loop .inv) (c .loop-test .left)
+returns-3 : tie.Need-returns-3 Inv-loop μ-loop
+returns-3 c = ending-past (c .before .loop .inv) (c .loop-test .left)
 
 pub trimmed-end-spec : {M : Type 1} → statement M
 trimmed-end-spec =
@@ -56,14 +58,15 @@ trimmed-end-spec =
     Inv-loop
     μ-loop
     loop-holds
-    shared-slice-read-ink
+    sub-b
+    shared-slice-read-b
     ink-requires
-    add-i
+    returns
+    space-requires
+    sub-n
     loop-less
     loop-again
-    character-requires
-    loop-less-2
-    loop-again-2
-    loop-less-3
-    loop-again-3
-    returns)
+    slice-aggregate-last-end
+    last-end-requires
+    returns-2
+    returns-3)

@@ -42,17 +42,17 @@ loop-less c = omega arith
 loop-again : tie.Need-loop-again Inv-loop μ-loop
 loop-again c = chars-one (c .before .before .before .before .before .loop .inv) (c .before .before .char-length .ensures) (c .if2 .taken)
 
-add-blocks : tie.Need-add-blocks Inv-loop μ-loop
-add-blocks c = omega (arith, chars-inside (c .before .before .before .before .before .loop .inv) (c .before .before .char-length .ensures))
+add-onward : tie.Need-add-onward Inv-loop μ-loop
+add-onward c = omega (arith, chars-inside (c .before .before .before .before .before .loop .inv) (c .before .before .char-length .ensures))
 
-blocks-requires-2 : tie.Need-blocks-requires-2 Inv-loop μ-loop
-blocks-requires-2 c κs = chars-inside (c .before .before .before .before .before .loop .inv) (c .before .before .char-length .ensures)
+onward-requires : tie.Need-onward-requires Inv-loop μ-loop
+onward-requires c κs = chars-inside (c .before .before .before .before .before .loop .inv) (c .before .before .char-length .ensures)
 
 loop-less-2 : tie.Need-loop-less-2 Inv-loop μ-loop
-loop-less-2 c = omega (arith, c .blocks3 .ensures)
+loop-less-2 c = omega (arith, c .onward .ensures)
 
 loop-again-2 : tie.Need-loop-again-2 Inv-loop μ-loop
-loop-again-2 c = chars-turn (c .before .before .before .before .before .before .loop .inv) (c .before .before .before .char-length .ensures) (c .before .before .if1 .left) (c .blocks3 .ensures)
+loop-again-2 c = chars-turn (c .before .before .before .before .before .before .loop .inv) (c .before .before .before .char-length .ensures) (c .before .before .if1 .left) (c .onward .ensures)
 
 returns-2 : tie.Need-returns-2 Inv-loop μ-loop
 returns-2 c = chars-past (c .before .loop .inv) (c .loop-test .left)
@@ -73,8 +73,8 @@ utf8-length-spec =
     add-i
     loop-less
     loop-again
-    add-blocks
-    blocks-requires-2
+    add-onward
+    onward-requires
     loop-less-2
     loop-again-2
     returns-2)

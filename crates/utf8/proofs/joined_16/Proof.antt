@@ -1,9 +1,8 @@
--- `plain`: four times four bytes.
-use borrow.Author.Tests.{ltb-true}
-use Rattle.utf8.proofs.BlockLaws.{run-sixteen}
+-- `joined_16`: four times four bytes.
+use Rattle.utf8.proofs.BlockLaws.{run-parts}
 use borrow.Author.Needs.{needs}
-use Rattle.utf8.proofs.plain.Statement.{statement}
-use Rattle.utf8.proofs.plain.Tie as tie
+use Rattle.utf8.proofs.joined_16.Statement.{statement}
+use Rattle.utf8.proofs.joined_16.Tie as tie
 
 joined-requires : tie.Need-joined-requires
 joined-requires c κs = search needs
@@ -27,10 +26,10 @@ joined-requires-4 : tie.Need-joined-requires-4
 joined-requires-4 c κs = search needs
 
 returns : tie.Need-returns
-returns c = λ t. run-sixteen (c .before .before .before .before .before .args .s .now) (c .before .before .before .before .before .args .i) _ _ _ _ (c .before .before .before .joined .ensures) (c .before .before .joined2 .ensures) (c .before .joined3 .ensures) (c .joined4 .ensures) (ltb-true _ _ t)
+returns c = run-parts (c .before .before .before .before .before .args .s .now) (c .before .before .before .before .before .args .i) 4 (c .before .before .before .joined .ensures) (c .before .before .joined2 .ensures) (c .before .joined3 .ensures) (c .joined4 .ensures)
 
-pub plain-spec : {M : Type 1} → statement M
-plain-spec =
+pub joined-16-spec : {M : Type 1} → statement M
+joined-16-spec =
     tie.close
     (tie.spec
     joined-requires
