@@ -1,10 +1,11 @@
 // A token as items: runs of digits, runs of one letter, blanks, and single bytes.
 use duration::Value;
 ghost use mathlib.Core.Path.{_≡_};
-ghost use Prim.Native.Nat.{_+_};
-ghost use lib.ListN.{drop};
+ghost use mathlib.Core.Bool.{true};
+ghost use Prim.Native.Nat.{_+_, _<_};
+ghost use lib.ListN.{length, getD, drop};
 ghost use Rattle.pitch.specs.Pitch.{within};
-ghost use Rattle.items.specs.Items.{isLetter, joins, itemOf, first, nextItem};
+ghost use Rattle.items.specs.Items.{isDigit, isLetter, joins, itemOf, first, nextItem};
 
 pub enum Item {
     Digits(Value),
@@ -27,6 +28,13 @@ fn within(low: u8, high: u8, b: u8) -> bool
         return false;
     }
     b <= high
+}
+
+// Whether a byte is a digit.
+pub fn is_digit(b: u8) -> bool
+    ensures { λ r. ⌜ r ≡ isDigit b ⌝ }
+{
+    within(b'0', b'9', b)
 }
 
 // Whether a byte is a letter of a step.
@@ -62,6 +70,39 @@ fn run_end(token: &[u8], from: usize) -> usize
     let mut e = from + 1;
     while e < token.len() {
         if joins(token[e - 1], token[e]) {
+            e += 1;
+        } else {
+            return e;
+        }
+    }
+    e
+}
+
+// The end of the digits that begin at an index.
+pub fn digits_end(token: &[u8], from: usize) -> usize
+    requires { ⌜ (from < length (now token)) × (isDigit (getD (now token) from 0) ≡ true) ⌝ }
+    ensures { λ r. ⌜ r ≡ from + first (drop from (now (token .entry))) ⌝ }
+{
+    let mut e = from + 1;
+    while e < token.len() {
+        if is_digit(token[e]) {
+            e += 1;
+        } else {
+            return e;
+        }
+    }
+    e
+}
+
+// The end of the run of a letter that begins at an index.
+pub fn letter_end(token: &[u8], from: usize) -> usize
+    requires { ⌜ (from < length (now token)) × (isLetter (getD (now token) from 0) ≡ true) ⌝ }
+    ensures { λ r. ⌜ r ≡ from + first (drop from (now (token .entry))) ⌝ }
+{
+    let letter = token[from];
+    let mut e = from + 1;
+    while e < token.len() {
+        if token[e] == letter {
             e += 1;
         } else {
             return e;

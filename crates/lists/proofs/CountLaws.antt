@@ -17,6 +17,9 @@ use Rattle.token.specs.declared.pitches.Sound.the-variants.{Silence}
 use Rattle.lists.specs.Lists.{toneBytes, pitchBytes, articulationBytes, signifierBytes, signifierIn, soundingAfter, endedBy, soundAfter}
 use Rattle.lists.proofs.ItemLaws.{tones-length, signifiers-more, heard-more}
 
+pub note-bytes : (token : List ℕ) → restOf (items token) ≡ false → toneBytes (heard Silence (items token)) ≡ pitchBytes token
+note-bytes token h = sym (ap (λ (t : Bool). toneBytes (cond t [] (pitchesOf (items token)))) h)
+
 module _ {s : Scan} (token : List ℕ) (e : s ≡ scanOf token) where
   pub count-articulations : s .articulations ≡ length (articulationBytes token)
   unfolding scanItems
@@ -38,11 +41,11 @@ module _ {s : Scan} (token : List ℕ) (e : s ≡ scanOf token) where
   unfolding toneBytes
   rest-bytes old h = sym (ap (λ (t : Bool). stored old (toneBytes (cond t [] (pitchesOf (items token))))) (sym is-rest ∙ h) ∙ stored-sets old [] (omega arith))
 
-  pub note-bytes : s .rest ≡ false → toneBytes (heard Silence (items token)) ≡ pitchBytes token
-  note-bytes h = sym (ap (λ (t : Bool). toneBytes (cond t [] (pitchesOf (items token)))) (sym is-rest ∙ h))
+  pub no-rest : s .rest ≡ false → restOf (items token) ≡ false
+  no-rest h = sym is-rest ∙ h
 
   pitches-length : s .rest ≡ false → length (pitchBytes token) ≡ 3 * s .pitches
-  pitches-length h = ap length (sym (note-bytes h)) ∙ tones-length (pitchesOf (items token)) ∙ ap (λ (n : ℕ). 3 * n) (sym count-pitches)
+  pitches-length h = ap length (sym (note-bytes token (no-rest h))) ∙ tones-length (pitchesOf (items token)) ∙ ap (λ (n : ℕ). 3 * n) (sym count-pitches)
 
   pub pitches-long : (old : List ℕ) → s .rest ≡ false → length old / 3 < s .pitches → old ≡ stored old (pitchBytes token)
   pitches-long old h l = sym (stored-not old (pitchBytes token) (omega (arith, pitches-length h)))

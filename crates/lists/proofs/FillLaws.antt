@@ -75,6 +75,11 @@ module _ {old all out token : List ℕ} {k i : ℕ} {left : List Item → List �
       → Writing old all out′ token k′ (n .end) next
   write-turn bytes next at e p q = record { high = at .high; fill = fill-turn bytes _ (at-item bytes next at e) p q }
 
+  -- an item that gives nothing
+  pub write-on : {n : Next} (next : List Item → List ℕ) → At token i n → ((is : List Item) → left (n .item ∷ is) ≡ next is)
+      → Writing old all out token k (n .end) next
+  write-on next at e = write-turn [] next at e refl (omega arith)
+
   pub write-left : length token ≤ i → Filling old all out k (left [])
   write-left h = fill-as (ap left (no-items token h)) (inv .fill)
 

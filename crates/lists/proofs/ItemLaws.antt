@@ -1,35 +1,18 @@
 -- What one item adds to a list.
 use mathlib.Core.Path.{_≡_, refl, sym, ap, _∙_}
-use Prim.Native.Nat.{ℕ, _*_, _≤_, _<_}
+use Prim.Native.Nat.{ℕ, _*_}
 use native.Mathlib.Omega.{arith}
 use mathlib.Core.List.{List, [], _∷_, _++_, append-nil}
 use mathlib.Core.Bool.{Bool, true, false, cond}
-use lib.Dec.{ltb}
 use lib.ListN.{length}
-use borrow.Author.Tests.{lt-ltb, le-ltb}
 use Rattle.pitch.specs.Pitch.{pitchOf, twosComplement}
 use Rattle.items.specs.declared.Item.{Item}
 use Rattle.items.specs.declared.Item.the-variants.{Digits, Letters, Blank, Mark}
-use Rattle.token.specs.Token.{marks, articulation, articulationsIn, articulationsOf, fits, passes, given, heard, signifiers}
+use Rattle.token.specs.Token.{fits, passes, given, heard, signifiers}
 use Rattle.token.specs.declared.pitches.Tone.{Tone}
 use Rattle.token.specs.declared.pitches.Sound.{Sound}
 use Rattle.token.specs.declared.pitches.Sound.the-variants.{Silence, Of}
-use Rattle.lists.specs.Lists.{toneBytes, articulationIn, signifierIn, soundingAfter, soundBytes, endedBy, soundAfter}
-
-pick : (t : Bool) (a : ℕ) (l : List ℕ) → cond t (a ∷ l) l ≡ cond t (a ∷ []) [] ++ l
-pick true a l = refl
-pick false a l = refl
-
-pub articulations-more : (i : Item) (is : List Item) → articulationsOf (i ∷ is) ≡ articulationIn i ++ articulationsOf is
-unfolding marks articulationsIn
-articulations-more (Digits v) is = refl
-articulations-more (Letters c n) is = refl
-articulations-more Blank is = refl
-articulations-more (Mark b) is = pick (ltb (articulation b) 5) (articulation b) (articulationsIn (marks is))
-
-pub articulations-none : articulationsOf [] ≡ []
-unfolding marks articulationsIn
-articulations-none = refl
+use Rattle.lists.specs.Lists.{toneBytes, signifierIn, soundingAfter, soundBytes, endedBy, soundAfter}
 
 pub signifiers-more : (s : Bool) (i : Item) (is : List Item) → signifiers s (i ∷ is) ≡ signifierIn s i ++ signifiers (soundingAfter s i) is
 unfolding signifiers
@@ -73,12 +56,6 @@ tones-length [] = refl
 tones-length (t ∷ ts) = omega (arith, tones-length ts)
 
 -- ---- a mark or a run, by the tests of the code
-pub is-articulation : {i : Item} {a b : ℕ} → i ≡ Mark b → a ≡ articulation b → a < 5 → articulationIn i ≡ a ∷ []
-is-articulation {i} {a} {b} e p h = ap articulationIn e ∙ rw (← p, lt-ltb a 5 h)
-
-pub no-articulation : {i : Item} {a b : ℕ} → i ≡ Mark b → a ≡ articulation b → 5 ≤ a → articulationIn i ≡ []
-no-articulation {i} {a} {b} e p h = ap articulationIn e ∙ rw (← p, le-ltb a 5 h)
-
 module _ {i : Item} (s : Bool) where
   pub run-fits : {c n : ℕ} {t : Bool} → i ≡ Letters c n → t ≡ fits s (pitchOf c n) → t ≡ true → signifierIn s i ≡ []
   run-fits e p h = ap (signifierIn s) e ∙ rw (sym p ∙ h)

@@ -2,3 +2,4 @@
 pub mod FillLaws
 pub mod ItemLaws
 pub mod CountLaws
+pub mod ByteLaws

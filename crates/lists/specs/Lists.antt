@@ -2,12 +2,11 @@
 use Prim.Native.Nat.{ℕ}
 use mathlib.Core.List.{List, [], _∷_}
 use mathlib.Core.Bool.{Bool, true, false, cond}
-use lib.Dec.{ltb}
 use Rattle.pitch.specs.Pitch.{pitchOf, twosComplement}
 use Rattle.items.specs.Items.{items}
 use Rattle.items.specs.declared.Item.{Item}
 use Rattle.items.specs.declared.Item.the-variants.{Digits, Letters, Blank, Mark}
-use Rattle.token.specs.Token.{articulation, articulationsOf, fits, passes, begun, signed, given, signifiersOf}
+use Rattle.token.specs.Token.{articulationsOf, fits, passes, begun, signed, given, signifiersOf}
 use Rattle.token.specs.Outcome.{notePitches}
 use Rattle.token.specs.declared.pitches.Tone.{Tone}
 use Rattle.token.specs.declared.pitches.Sound.{Sound}
@@ -31,12 +30,6 @@ abbrev pub signifierBytes : List ℕ → List ℕ
 signifierBytes token = signifiersOf (items token)
 
 -- ---- item by item
-abbrev pub articulationIn : Item → List ℕ
-articulationIn (Digits v) = []
-articulationIn (Letters c n) = []
-articulationIn Blank = []
-articulationIn (Mark b) = cond (ltb (articulation b) 5) (articulation b ∷ []) []
-
 abbrev pub signifierIn : Bool → Item → List ℕ
 signifierIn sounding (Digits v) = []
 signifierIn sounding (Letters c n) = cond (fits sounding (pitchOf c n)) [] (c ∷ [])

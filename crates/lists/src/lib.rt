@@ -4,44 +4,43 @@ use pitch::Pitch;
 use token::pitches::Sound;
 use token::pitches::Tone;
 ghost use mathlib.Core.Path.{_≡_};
+ghost use mathlib.Core.Bool.{false};
+ghost use mathlib.Core.List.{[], _∷_};
 ghost use Prim.Native.Nat.{_+_, _≤_};
 ghost use lib.ListN.{length};
 ghost use lib.Seq.{sets};
 ghost use Rattle.slices.specs.Store.{stored};
-ghost use Rattle.token.specs.Token.{begun, signed};
-ghost use Rattle.pitch.specs.Pitch.{pitchOf};
-ghost use Rattle.lists.specs.Lists.{pitchBytes, articulationBytes, signifierBytes, articulationIn, signifierIn, soundingAfter, soundBytes, endedBy, soundAfter};
+ghost use Rattle.items.specs.Items.{items};
+ghost use Rattle.token.specs.Token.{restOf, articulationsIn, begun, signed};
+ghost use Rattle.lists.specs.Lists.{pitchBytes, articulationBytes, signifierBytes, signifierIn, soundingAfter, soundBytes};
 
-// The articulation of an item, at k; the place behind it.
-fn put_articulation(out: &mut [u8], k: usize, item: Item) -> usize
-    requires { ⌜ k + length (articulationIn item) ≤ length (now out) ⌝ }
-    ensures { λ r. ⌜ (now (out .exit) ≡ sets (now (out .entry)) k (articulationIn item)) × (r ≡ k + length (articulationIn item)) ⌝ }
+// The articulation of a byte, at k; the place behind it.
+fn put_articulation(out: &mut [u8], k: usize, b: u8) -> usize
+    requires { ⌜ k + length (articulationsIn (b ∷ [])) ≤ length (now out) ⌝ }
+    ensures { λ r. ⌜ (now (out .exit) ≡ sets (now (out .entry)) k (articulationsIn (b ∷ []))) × (r ≡ k + length (articulationsIn (b ∷ []))) ⌝ }
 {
-    match item {
-        Item::Digits(_) => {
-            return k;
-        }
-        Item::Letters {
-            letter: _,
-            count: _,
-        } => {
-            return k;
-        }
-        Item::Blank => {
-            return k;
-        }
-        Item::Mark(b) => {
-            let a = token::scan::articulation(b);
-            if a < 5 {
-                out[k] = a;
-                return k + 1;
-            }
-            return k;
-        }
+    let a = token::scan::articulation(b);
+    if a < 5 {
+        out[k] = a;
+        return k + 1;
+    }
+    k
+}
+
+// The articulations of a token, for which there is room; no digit, letter of a step or blank is one.
+pub fn fill_articulations(out: &mut [u8], token: &[u8])
+    requires { ⌜ length (articulationBytes (now token)) ≤ length (now out) ⌝ }
+    ensures { λ _. ⌜ now (out .exit) ≡ stored (now (out .entry)) (articulationBytes (now (token .entry))) ⌝ }
+{
+    let mut k = 0;
+    let mut i = 0;
+    while i < token.len() {
+        k = put_articulation(out, k, token[i]);
+        i += 1;
     }
 }
 
-// The articulations of a token.
+// The articulations of a token, where they fit.
 pub fn put_articulations(out: &mut [u8], token: &[u8])
     ensures { λ _. ⌜ now (out .exit) ≡ stored (now (out .entry)) (articulationBytes (now (token .entry))) ⌝ }
 {
@@ -49,14 +48,7 @@ pub fn put_articulations(out: &mut [u8], token: &[u8])
     if out.len() < scan.articulations {
         return;
     }
-    let mut k = 0;
-    let mut i = 0;
-    while i < token.len() {
-        let next = items::next_item(token, i);
-        let item = next.item;
-        k = put_articulation(out, k, item);
-        i = next.end;
-    }
+    fill_articulations(out, token);
 }
 
 // The signifier of an item, at k; the place behind it. `sounding` says that the sub-token has a pitch.
@@ -111,14 +103,11 @@ fn sounding_after(sounding: bool, item: Item) -> bool
     }
 }
 
-// The signifiers of a token.
-pub fn put_signifiers(out: &mut [u8], token: &[u8])
+// The signifiers of a token, for which there is room.
+pub fn fill_signifiers(out: &mut [u8], token: &[u8])
+    requires { ⌜ length (signifierBytes (now token)) ≤ length (now out) ⌝ }
     ensures { λ _. ⌜ now (out .exit) ≡ stored (now (out .entry)) (signifierBytes (now (token .entry))) ⌝ }
 {
-    let scan = token::scan::scan_token(token);
-    if out.len() < scan.signifiers {
-        return;
-    }
     let mut sounding = false;
     let mut k = 0;
     let mut i = 0;
@@ -129,6 +118,17 @@ pub fn put_signifiers(out: &mut [u8], token: &[u8])
         sounding = sounding_after(sounding, item);
         i = next.end;
     }
+}
+
+// The signifiers of a token, where they fit.
+pub fn put_signifiers(out: &mut [u8], token: &[u8])
+    ensures { λ _. ⌜ now (out .exit) ≡ stored (now (out .entry)) (signifierBytes (now (token .entry))) ⌝ }
+{
+    let scan = token::scan::scan_token(token);
+    if out.len() < scan.signifiers {
+        return;
+    }
+    fill_signifiers(out, token);
 }
 
 // The three bytes of a pitch, if there is one, at k; the place behind them.
@@ -145,30 +145,6 @@ fn put_sound(out: &mut [u8], k: usize, s: Sound) -> usize
             out[k + 1] = t.octave;
             out[k + 2] = pitch::alter_byte(t.alter);
             return k + 3;
-        }
-    }
-}
-
-// The pitch of a sub-token that an item ends, at k; the place behind it.
-fn put_ended(out: &mut [u8], k: usize, s: Sound, item: Item) -> usize
-    requires { ⌜ k + length (endedBy s item) ≤ length (now out) ⌝ }
-    ensures { λ r. ⌜ (now (out .exit) ≡ sets (now (out .entry)) k (endedBy s item)) × (r ≡ k + length (endedBy s item)) ⌝ }
-{
-    match item {
-        Item::Digits(_) => {
-            return k;
-        }
-        Item::Letters {
-            letter: _,
-            count: _,
-        } => {
-            return k;
-        }
-        Item::Blank => {
-            return put_sound(out, k, s);
-        }
-        Item::Mark(_) => {
-            return k;
         }
     }
 }
@@ -217,27 +193,39 @@ fn sign(s: Sound, b: u8) -> Sound
     }
 }
 
-// The sub-token's pitch behind an item.
-fn sound_after(s: Sound, item: Item) -> Sound
-    ensures { λ r. ⌜ r ≡ soundAfter s item ⌝ }
+// The pitches of a token that is no rest, for which there is room.
+pub fn fill_pitches(out: &mut [u8], token: &[u8])
+    requires { ⌜ (restOf (items (now token)) ≡ false) × (length (pitchBytes (now token)) ≤ length (now out)) ⌝ }
+    ensures { λ _. ⌜ now (out .exit) ≡ stored (now (out .entry)) (pitchBytes (now (token .entry))) ⌝ }
 {
-    match item {
-        Item::Digits(_) => {
-            return s;
+    let mut sound = Sound::Silence;
+    let mut k = 0;
+    let mut i = 0;
+    while i < token.len() {
+        let b = token[i];
+        if items::is_digit(b) {
+            i = items::digits_end(token, i);
+            continue;
         }
-        Item::Letters { letter, count } => {
-            return begin(s, pitch::pitch_of(letter, count));
+        if items::is_letter(b) {
+            let end = items::letter_end(token, i);
+            sound = begin(sound, pitch::pitch_of(b, end - i));
+            i = end;
+            continue;
         }
-        Item::Blank => {
-            return Sound::Silence;
+        if b == b' ' {
+            k = put_sound(out, k, sound);
+            sound = Sound::Silence;
+            i += 1;
+            continue;
         }
-        Item::Mark(b) => {
-            return sign(s, b);
-        }
+        sound = sign(sound, b);
+        i += 1;
     }
+    put_sound(out, k, sound);
 }
 
-// The pitches of a token's note.
+// The pitches of a token's note, where they fit.
 pub fn put_pitches(out: &mut [u8], token: &[u8])
     ensures { λ _. ⌜ now (out .exit) ≡ stored (now (out .entry)) (pitchBytes (now (token .entry))) ⌝ }
 {
@@ -248,15 +236,5 @@ pub fn put_pitches(out: &mut [u8], token: &[u8])
     if out.len() / 3 < scan.pitches {
         return;
     }
-    let mut sound = Sound::Silence;
-    let mut k = 0;
-    let mut i = 0;
-    while i < token.len() {
-        let next = items::next_item(token, i);
-        let item = next.item;
-        k = put_ended(out, k, sound, item);
-        sound = sound_after(sound, item);
-        i = next.end;
-    }
-    put_sound(out, k, sound);
+    fill_pitches(out, token);
 }

@@ -64,13 +64,13 @@ sounding s v starts ends {x} {r} {n} long h e q m =
     )
 
 -- the k cells of part p were lent and came back as q
-pub part-sounded : (n p v k : ℕ) (s q token : List ℕ) {r : ℕ} {l : Letters} → length s ≡ 8960 → n ≤ 256 → p < n → k ≡ 35 → l ≡ lettersOf token
+pub part-sounded : (n p v k : ℕ) (s q : List ℕ) (starts ends : Bool) {r : ℕ} → length s ≡ 8960 → n ≤ 256 → p < n → k ≡ 35
     → length q ≡ length (take k (drop (p * 35) s))
-    → partOf q ≡ soundedBy (partOf (take k (drop (p * 35) s))) v (l .starts) (l .ends)
-    → r ≡ beamNumber (beamBy (partOf (take k (drop (p * 35) s))) v (l .starts) (l .ends) .mark)
-    → (partsOf n (putMid (p * 35) k s q) ≡ set (partsOf n s) p (sounded (getD (partsOf n s) p (freshPart p)) v token))
-    × (r ≡ beamNumber (beamIn (getD (partsOf n s) p (freshPart p)) v token .mark))
-part-sounded n p v k s q token long few lt width letters kept e m =
+    → partOf q ≡ soundedBy (partOf (take k (drop (p * 35) s))) v starts ends
+    → r ≡ beamNumber (beamBy (partOf (take k (drop (p * 35) s))) v starts ends .mark)
+    → (partsOf n (putMid (p * 35) k s q) ≡ set (partsOf n s) p (soundedBy (getD (partsOf n s) p (freshPart p)) v starts ends))
+    × (r ≡ beamNumber (beamBy (getD (partsOf n s) p (freshPart p)) v starts ends .mark))
+part-sounded n p v k s q starts ends long few lt width kept e m =
     let lent : take k (drop (p * 35) s) ≡ take 35 (drop (p * 35) s) = ap (λ (j : ℕ). take j (drop (p * 35) s)) width in
     let whole : partOf (take k (drop (p * 35) s)) ≡ getD (partsOf n s) p (freshPart p)
     = ap partOf lent ∙ sym (part-at n p (p * 35) (freshPart p) s refl lt) in
@@ -79,6 +79,14 @@ part-sounded n p v k s q token long few lt width letters kept e m =
     let g : length q ≡ 35 = kept ∙ ap length lent ∙ t in (
       ap (λ (j : ℕ). partsOf n (putMid (p * 35) j s q)) width
           ∙ part-back n p (p * 35) q s refl lt (omega arith) g
-          ∙ ap (set (partsOf n s) p) (e ∙ ap₂ (λ (x : Part) (y : Letters). soundedBy x v (y .starts) (y .ends)) whole letters),
-      m ∙ ap₂ (λ (x : Part) (y : Letters). beamNumber (beamBy x v (y .starts) (y .ends) .mark)) whole letters,
+          ∙ ap (set (partsOf n s) p) (e ∙ ap (λ (x : Part). soundedBy x v starts ends) whole),
+      m ∙ ap (λ (x : Part). beamNumber (beamBy x v starts ends .mark)) whole,
     )
+
+-- the letters are the token's
+module _ (p : Part) (v : ℕ) (token : List ℕ) {l : Letters} (e : l ≡ lettersOf token) where
+  pub sounded-by : soundedBy p v (l .starts) (l .ends) ≡ sounded p v token
+  sounded-by = ap (λ (y : Letters). soundedBy p v (y .starts) (y .ends)) e
+
+  pub beam-by : beamNumber (beamBy p v (l .starts) (l .ends) .mark) ≡ beamNumber (beamIn p v token .mark)
+  beam-by = ap (λ (y : Letters). beamNumber (beamBy p v (y .starts) (y .ends) .mark)) e

@@ -4,15 +4,17 @@ use Prim.Native.Nat.{ℕ, zero, suc, _+_, _-_, _/_, _%_, _^_, _≤_, _<_}
 use native.Mathlib.Nat.{not-suc-le-zero, le-of-suc-le-suc}
 use native.Mathlib.Omega.{arith}
 use mathlib.Core.List.{List, [], _∷_, map}
+use mathlib.Core.Bool.{Bool, true}
 use lib.ListN.{length, take, drop, getD, length-take}
-use Rattle.lines.specs.Tokens.{tokensOf}
+use Rattle.lines.specs.Tokens.{tokensOf, isNull}
 use Rattle.duration.specs.Duration.{durationOf}
 use Rattle.duration.specs.declared.Value.{Value}
-use Rattle.paths.specs.Row.{Spine, line}
+use Rattle.paths.specs.Row.{Spine, line, branch, outside}
 use Rattle.paths.specs.Text.{spineAt}
 use Rattle.spines.specs.Cells.{spineOf, rowOf}
 use Rattle.spines.proofs.CellLaws.{cell-outside, cell-line, cell-branch}
-use Rattle.reading.specs.State.{State}
+use Rattle.reading.specs.State.{State, Step, goes}
+use Rattle.reading.specs.Notices.{Token, quiet}
 use Rattle.reading.specs.Bars.{isKernSpine}
 use Rattle.reading.specs.Notes as notes
 use Rattle.state.specs.declared.Tally.{Tally}
@@ -29,6 +31,14 @@ unfolding rowOf
 cell-at [] i h = absurd (not-suc-le-zero h)
 cell-at (c ∷ s) zero h = refl
 cell-at (c ∷ s) (suc i) h = cell-at s i (le-of-suc-le-suc h)
+
+-- a null token, in whatever spine
+spine-null : (s : Spine) (all : List (List ℕ)) (kern : List Bool) (k i : ℕ) (t : Token) (st : State) → isNull (t .bytes) ≡ true
+    → notes.readSpine s all kern k i t st ≡ goes (quiet st)
+unfolding notes.readToken-at
+spine-null (line p v) all kern k i t st e = rw e
+spine-null (branch p) all kern k i t st e = refl
+spine-null outside all kern k i t st e = refl
 
 -- the spot of a column in a kern line
 abbrev spotOf : List ℕ → Column → Spot
@@ -61,6 +71,13 @@ module _ (text row : List ℕ) (c : Column) where
       quiet-step st out at
       ∙ ap (λ (s : Spine). landed (notes.readSpine s (take (length row) (tokensOf text)) (map isKernSpine (rowOf row)) (c .line) (c .index) (tokenIn text c) st) out at)
       (sym (cell-branch (getD row (c .index) 0) (getD row (c .index) 0 / 8 - 1) q (omega arith)))
+
+  pub column-null : (st : State) (out : List ℕ) (at : ℕ) → isNull (tokenIn text c .bytes) ≡ true → going st at out ≡ landed (columnStep text row c st) out at
+  unfolding columnStep
+  column-null st out at e =
+      quiet-step st out at
+      ∙ ap (λ (s : Step). landed s out at)
+      (sym (spine-null (spineOf (getD row (c .index) 0)) (take (length row) (tokensOf text)) (map isKernSpine (rowOf row)) (c .line) (c .index) (tokenIn text c) st e))
 
   pub column-line : (st : State) (out : List ℕ) (at : ℕ) {v : Value} {l : Landed} → 8 ≤ getD row (c .index) 0 → getD row (c .index) 0 % 8 ≤ 3
       → v ≡ durationOf (notes.inferredFor (take (length row) (tokensOf text)) (map isKernSpine (rowOf row)) (c .index) (tokenIn text c .bytes))

@@ -29,12 +29,7 @@ use Rattle.notes.specs.Spot.{Same, Kept}
 use Rattle.notes.specs.Column.{columnStep}
 use Rattle.notes.proofs.NoticeLaws.{same, same-same}
 use Rattle.notes.proofs.TokenLaws.{quiet-step, kept-same}
-
--- the bytes of placed tokens
-placed-bytes : (at : ℕ) (ts : List (List ℕ)) → map (λ (t : Token). t .bytes) (placed at ts) ≡ ts
-unfolding placed
-placed-bytes at [] = refl
-placed-bytes at (t ∷ ts) = ap (λ (l : List (List ℕ)). t ∷ l) (placed-bytes (at + length t + 1) ts)
+use Rattle.reading.proofs.StateLaws.{placed-bytes}
 
 -- ---- a step and what comes after it, by what the code says of the step
 then-goes : (s : Step) (g : State → Step) (out new : List ℕ) (at place : ℕ) (st : State) → going st place new ≡ landed s out at

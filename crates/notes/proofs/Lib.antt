@@ -4,5 +4,6 @@ pub mod ListLaws
 pub mod NoticeLaws
 pub mod TokenLaws
 pub mod PeerLaws
+pub mod ShapeLaws
 pub mod ColumnLaws
 pub mod DataLaws

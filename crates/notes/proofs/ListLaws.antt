@@ -18,16 +18,12 @@ use Rattle.token.specs.declared.pitches.Tone.{Tone}
 use Rattle.token.specs.declared.outcome.Note.{Note}
 use Rattle.token.specs.declared.outcome.Outcome.{Outcome}
 use Rattle.token.specs.declared.outcome.Outcome.the-variants.{Silent, Unread, Heard}
-use Rattle.token.proofs.AccountLaws.{Listed}
+use Rattle.token.proofs.AccountLaws.{Listed, no-rest}
 
 abbrev Lists : List ℕ → Outcome → Type 0
 Lists token Silent = Unit {0}
 Lists token (Unread k) = Unit {0}
 Lists token (Heard n) = Listed token n
-
-no-rest : (t : Bool) (ts : List Tone) → cond t 0 (length ts) ≡ length (cond t [] ts)
-no-rest true ts = refl
-no-rest false ts = refl
 
 either-lists : (token : List ℕ) (t : Bool) (x y : Outcome) → Lists token x → Lists token y → Lists token (cond t x y)
 either-lists token true x y p q = p

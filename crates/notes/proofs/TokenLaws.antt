@@ -3,11 +3,12 @@ use mathlib.Core.Path.{_≡_, refl, sym, ap, ap₂, _∙_}
 use Prim.Native.Nat.{ℕ, _+_, _≤_, _<_}
 use mathlib.Core.List.{List, [], _∷_, _++_}
 use mathlib.Core.Bool.{Bool, true, false}
-use lib.ListN.{getD, set}
+use lib.ListN.{length, getD, set}
 use borrow.Author.Tests.{lt-ltb, le-ltb}
 use Rattle.lines.specs.Tokens.{isNull}
 use Rattle.duration.specs.declared.Value.{Value}
-use Rattle.notation.specs.Beam.{beamNumber}
+use Rattle.notation.specs.Beam.{beamNumber, lettersOf}
+use Rattle.notation.specs.declared.beam.Letters.{Letters}
 use Rattle.token.specs.Scan.{scanOf}
 use Rattle.token.specs.Outcome.{outcomeOf, reported}
 use Rattle.token.specs.declared.scan.Scan.{Scan}
@@ -27,9 +28,13 @@ use Rattle.state.specs.Lay.{laid, behind}
 use Rattle.state.specs.View.{stateOf, Landed, stopped, going, landed}
 use Rattle.state.proofs.LayLaws.{laid-append, behind-append}
 use Rattle.writing.specs.Kept.{noteRecord}
+use Rattle.plain.specs.Plain.{PlainToken}
+use Rattle.plain.specs.declared.Plain.{Plain}
 use Rattle.notes.specs.declared.Spot.{Spot}
+use Rattle.notes.specs.Beam.{beamBy, soundedBy}
 use Rattle.notes.specs.Spot.{tokenAt, tokenStep, noteAt, withNote, Same, Kept, Noticed, inferredNotice}
-use Rattle.notes.proofs.NoticeLaws.{same-same, noticed-goes, noticed-behind}
+use Rattle.notes.proofs.BeamLaws.{sounded-by, beam-by}
+use Rattle.notes.proofs.NoticeLaws.{same-same, noticed-none, signify-none, noticed-goes, noticed-behind}
 
 -- ---- the note
 pub note-refused : (p v k j at : ℕ) (token : List ℕ) (n : Note) (st : State) (out : List ℕ) (place : ℕ) → 100000 ≤ st .notes
@@ -56,15 +61,16 @@ after-landed r f out at =
 
 module _ (cells parts parts′ token : List ℕ) (n : Note) (s : Spot) {t u w : Tally} {old mid new : List ℕ} {beam at : ℕ} {written : NoteWritten}
     (few : t .notes < 100000) (h : Noticed t u old mid (inferredNotice (n .inferred) token s))
-    (sounds : partsOf (u .parts) parts′ ≡ set (partsOf (u .parts) parts) (s .part) (notes.sounded (partHere s u parts) (s .voice) token))
-    (beams : beam ≡ beamNumber (notes.beamIn (partHere s u parts) (s .voice) token .mark))
+    {l : Letters} (letters : l ≡ lettersOf token)
+    (sounds : partsOf (u .parts) parts′ ≡ set (partsOf (u .parts) parts) (s .part) (soundedBy (partHere s u parts) (s .voice) (l .starts) (l .ends)))
+    (beams : beam ≡ beamNumber (beamBy (partHere s u parts) (s .voice) (l .starts) (l .ends) .mark))
     (is : written ≡ noteAt n s (u .bars) beam)
     (lays : new ≡ laid mid (u .at) (noteRecord written token ∷ []))
     (ends : at ≡ behind (u .at) (noteRecord written token ∷ []))
     (counts : w ≡ withNote u at) where
   record-is : noteRecord written token ≡ notes.noteRecord (s .part) (s .voice) (s .line) (s .column) token n (stateOf cells parts u)
   unfolding notes.noteRecord
-  record-is = ap (λ (x : NoteWritten). noteRecord x token) (is ∙ ap (noteAt n s (u .bars)) beams)
+  record-is = ap (λ (x : NoteWritten). noteRecord x token) (is ∙ ap (noteAt n s (u .bars)) (beams ∙ beam-by (partHere s u parts) (s .voice) token letters))
 
   state-is : stateOf cells parts′ w ≡ noteResult token n s (stateOf cells parts u) .state
   state-is =
@@ -79,7 +85,7 @@ module _ (cells parts parts′ token : List ℕ) (n : Note) (s : Spot) {t u w : 
         title = u .title;
         composer = u .composer;
         lyricist = u .lyricist;
-      }) sounds
+      }) (sounds ∙ ap (set (partsOf (u .parts) parts) (s .part)) (sounded-by (partHere s u parts) (s .voice) token letters))
 
   place-is : w .at ≡ behind (u .at) (noteResult token n s (stateOf cells parts u) .records)
   place-is = ap (λ (x : Tally). x .at) counts ∙ ends ∙ ap (λ (r : Record). behind (u .at) (r ∷ [])) record-is
@@ -155,3 +161,12 @@ module _ (cells parts token : List ℕ) (inferred : Value) (s : Spot) {t u : Tal
   heard-step q e =
       token-step (e
       ∙ ap (λ (x : Outcome). landed (notes.byOutcome x (s .part) (s .voice) (s .line) (s .column) (tokenAt s token) (stateOf cells parts u)) new (u .at)) (sym q))
+
+-- a token of the usual shape comes to its note, whatever length its peers give
+pub plain-step : (cells parts token : List ℕ) (inferred : Value) (s : Spot) (t : Tally) (old : List ℕ) {p : Plain} {l : Landed} → PlainToken token p
+    → l ≡ landed (notes.addNote (s .part) (s .voice) (s .line) (s .column) (tokenAt s token) (p .note) (stateOf cells parts t)) old (t .at)
+    → l ≡ landed (tokenStep token inferred s (stateOf cells parts t)) old (t .at)
+plain-step cells parts token inferred s t old plain e =
+    let none : Noticed t t old old (notes.signify (reported token) (s .line) (s .column))
+    = noticed-none t old (notes.signify (reported token) (s .line) (s .column)) (λ st. signify-none (reported token) (s .line) (s .column) (ap length (plain .reports)) st) in
+    heard-step cells parts token inferred s refl (plain .sounds) refl none refl (plain .outcome inferred) e

@@ -1,6 +1,8 @@
 // Data records: the notices and the NOTE of each token, column by column.
 use duration::Value;
 use notation::beam::Beam;
+use plain::Plain;
+use plain::Shape;
 use state::Step;
 use state::Tally;
 use token::outcome::Note;
@@ -12,22 +14,25 @@ ghost use mathlib.Core.List.{List, map};
 ghost use Prim.Native.Nat.{ℕ, _+_, _^_, _≤_, _<_};
 ghost use lib.ListN.{length, getD, set, take};
 ghost use Rattle.notation.specs.Beam.{beamNumber};
+ghost use Rattle.lines.specs.Lines.{pieceEnd};
 ghost use Rattle.lines.specs.Tokens.{tokensOf};
 ghost use Rattle.token.specs.Scan.{scanOf};
 ghost use Rattle.items.specs.Items.{items};
 ghost use Rattle.token.specs.Token.{articulationsOf};
 ghost use Rattle.token.specs.Outcome.{reported, notePitches};
 ghost use Rattle.duration.specs.Duration.{durationOf};
+ghost use Rattle.duration.specs.declared.Value.{Value};
+ghost use Rattle.plain.specs.Plain.{PlainToken, ShapeAt};
 ghost use Rattle.spines.specs.Cells.{rowOf};
 ghost use Rattle.reading.specs.State.{freshPart};
 ghost use Rattle.reading.specs.Bars.{isKernSpine};
 ghost use Rattle.reading.specs.Notices.{placed, notify, spanOfToken};
-ghost use Rattle.reading.specs.Notes.{bit, flagsOf, beamIn, sounded, signify, addNote, inferredFor, readData};
+ghost use Rattle.reading.specs.Notes.{bit, flagsOf, signify, addNote, inferredFor, readData};
 ghost use Rattle.state.specs.Parts.{partOf, partsOf};
 ghost use Rattle.state.specs.Ready.{Ready};
 ghost use Rattle.state.specs.View.{stateOf, landed, told};
 ghost use Rattle.notes.specs.Beam.{beamBy, soundedBy};
-ghost use Rattle.notes.specs.Column.{columnStep};
+ghost use Rattle.notes.specs.Column.{tokenIn, columnStep};
 ghost use Rattle.notes.specs.Spot.{tokenAt, tokenStep, noteAt, withNote, Kept, Noticed, inferredNotice, Sited};
 
 // Where a token stands: its part and voice, line and column from 1, and its offset in the text.
@@ -68,15 +73,21 @@ fn sound(cells: &mut [u32], voice: usize, starts: bool, ends: bool) -> u8
     notation::beam::beam_number(mark)
 }
 
-// The same in one of `count` parts, by the letters of the note's token.
-fn sound_part(parts: &mut [u32], count: usize, part: usize, voice: usize, token: &[u8]) -> u8
+// The same in one of `count` parts.
+fn sound_part(
+    parts: &mut [u32],
+    count: usize,
+    part: usize,
+    voice: usize,
+    starts: bool,
+    ends: bool,
+) -> u8
     requires { ⌜ (length (now parts) ≡ 8960) × ((count ≤ 256) × ((part < count) × (voice < 4))) ⌝ }
-    ensures { λ r. ⌜ (partsOf count (now (parts .exit)) ≡ set (partsOf count (now (parts .entry))) part (sounded (getD (partsOf count (now (parts .entry))) part (freshPart part)) voice (now (token .entry)))) × (r ≡ beamNumber (beamIn (getD (partsOf count (now (parts .entry))) part (freshPart part)) voice (now (token .entry)) .mark)) ⌝ }
+    ensures { λ r. ⌜ (partsOf count (now (parts .exit)) ≡ set (partsOf count (now (parts .entry))) part (soundedBy (getD (partsOf count (now (parts .entry))) part (freshPart part)) voice starts ends)) × (r ≡ beamNumber (beamBy (getD (partsOf count (now (parts .entry))) part (freshPart part)) voice starts ends .mark)) ⌝ }
 {
-    let letters = notation::beam::beam_letters(token);
     let a = part * 35;
     let e = a + 35;
-    sound(&mut parts[a..e], voice, letters.starts, letters.ends)
+    sound(&mut parts[a..e], voice, starts, ends)
 }
 
 // ---- the NOTE
@@ -207,7 +218,15 @@ fn add_note(
 {
     if tally.notes < 100000 {
         let t = notify_inferred(token, n.inferred, spot, tally, out);
-        let beam = sound_part(parts, t.parts, spot.part, spot.voice, token);
+        let letters = notation::beam::beam_letters(token);
+        let beam = sound_part(
+            parts,
+            t.parts,
+            spot.part,
+            spot.voice,
+            letters.starts,
+            letters.ends,
+        );
         let note = note_at(n, spot, t.bars, beam);
         let at = writing::write_note(out, t.at, note, token);
         return Step::Goes(with_note(t, at));
@@ -248,6 +267,31 @@ pub fn read_token(
             return add_note(token, n, spot, parts, t, out);
         }
     }
+}
+
+// The NOTE of a token of the usual shape, which gives no notice.
+fn add_plain(
+    token: &[u8],
+    p: Plain,
+    spot: Spot,
+    parts: &mut [u32],
+    tally: Tally,
+    out: &mut [u8],
+) -> Step
+    requires { ⌜ Sited (now token) (now parts) spot tally × PlainToken (now token) p ⌝ }
+    ensures { λ r. ⌜ ((inferred : Value) (cells : List ℕ) → told r cells (now (parts .exit)) (now (out .exit)) ≡ landed (tokenStep (now (token .entry)) inferred spot (stateOf cells (now (parts .entry)) tally)) (now (out .entry)) (tally .at)) × Kept tally r ⌝ }
+{
+    if 100000 <= tally.notes {
+        return Step::Refused {
+            number: 10,
+            line: spot.line as usize,
+            figure: 0,
+        };
+    }
+    let beam = sound_part(parts, tally.parts, spot.part, spot.voice, p.starts, p.ends);
+    let note = note_at(p.note, spot, tally.bars, beam);
+    let at = writing::write_plain(out, tally.at, note, p.tone, token);
+    Step::Goes(with_note(tally, at))
 }
 
 // ---- the columns of a record
@@ -305,6 +349,84 @@ fn read_column(
     read_token(token, inferred, spot, parts, tally, out)
 }
 
+// The same for a token of the usual shape.
+fn read_plain(
+    line: &[u8],
+    row: &[u16],
+    column: Column,
+    p: Plain,
+    parts: &mut [u32],
+    tally: Tally,
+    out: &mut [u8],
+) -> Step
+    requires { ⌜ (Ready (now row) (now parts) tally × ((column .offset + length (now line) < 2 ^ 27) × ((column .index < length (now row)) × ((column .from ≤ column .end) × (column .end ≤ length (now line)))))) × PlainToken (tokenIn (now line) column .bytes) p ⌝ }
+    ensures { λ r. ⌜ (told r (now (row .entry)) (now (parts .exit)) (now (out .exit)) ≡ landed (columnStep (now (line .entry)) (now (row .entry)) column (stateOf (now (row .entry)) (now (parts .entry)) tally)) (now (out .entry)) (tally .at)) × Kept tally r ⌝ }
+{
+    let i = column.index;
+    let from = column.from;
+    let end = column.end;
+    let cell = row[i];
+    if cell < 8 {
+        return Step::Goes(tally);
+    }
+    if 3 < cell % 8 {
+        return Step::Goes(tally);
+    }
+    let token = &line[from..end];
+    let spot = Spot {
+        part: (cell / 8 - 1) as usize,
+        voice: (cell % 8) as usize,
+        line: column.line,
+        column: (i + 1) as u16,
+        at: column.offset + from as u32,
+    };
+    add_plain(token, p, spot, parts, tally, out)
+}
+
+// Where the token ends that begins at an index and has this shape.
+fn end_of(line: &[u8], from: usize, shape: Shape) -> usize
+    requires { ⌜ ShapeAt (now line) from shape ⌝ }
+    ensures { λ r. ⌜ r ≡ pieceEnd 9 (now (line .entry)) from ⌝ }
+{
+    match shape {
+        Shape::Other => {
+            return lines::token_end(line, from);
+        }
+        Shape::Null(end) => {
+            return end;
+        }
+        Shape::Note(p) => {
+            return p.end;
+        }
+    }
+}
+
+// One column, by the shape of its token.
+fn read_shape(
+    line: &[u8],
+    row: &[u16],
+    column: Column,
+    shape: Shape,
+    parts: &mut [u32],
+    tally: Tally,
+    out: &mut [u8],
+) -> Step
+    requires { ⌜ (Ready (now row) (now parts) tally × ((column .offset + length (now line) < 2 ^ 27) × ((column .index < length (now row)) × ((column .from ≤ column .end) × (column .end ≤ length (now line)))))) × (ShapeAt (now line) (column .from) shape × (column .end ≡ pieceEnd 9 (now line) (column .from))) ⌝ }
+    ensures { λ r. ⌜ (told r (now (row .entry)) (now (parts .exit)) (now (out .exit)) ≡ landed (columnStep (now (line .entry)) (now (row .entry)) column (stateOf (now (row .entry)) (now (parts .entry)) tally)) (now (out .entry)) (tally .at)) × Kept tally r ⌝ }
+{
+    match shape {
+        Shape::Other => {
+            return read_column(line, row, column, parts, tally, out);
+        }
+        Shape::Null(_) => {
+            return Step::Goes(tally);
+        }
+        Shape::Note(p) => {
+            return read_plain(line, row, column, p, parts, tally, out);
+        }
+    }
+}
+
 // A data record: its tokens in the columns of the row.
 pub fn read_data(
     line: &[u8],
@@ -325,7 +447,8 @@ pub fn read_data(
         if line.len() < from {
             return Step::Goes(t);
         }
-        let end = lines::token_end(line, from);
+        let shape = plain::shape_of(line, from);
+        let end = end_of(line, from, shape);
         let column = Column {
             index: i,
             from,
@@ -333,7 +456,7 @@ pub fn read_data(
             line: number,
             offset,
         };
-        let step = read_column(line, row, column, parts, t, out);
+        let step = read_shape(line, row, column, shape, parts, t, out);
         match step {
             Step::Refused {
                 number: _,

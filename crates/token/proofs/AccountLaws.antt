@@ -230,7 +230,7 @@ pub length-agrees : (token peers : List ℕ) (n : Note) → readToken token peer
 length-agrees token peers n e = rw e at (note-lasts token peers)
 
 -- ---- its pitches
-no-rest : (t : Bool) (ts : List Tone) → cond t 0 (length ts) ≡ length (cond t [] ts)
+pub no-rest : (t : Bool) (ts : List Tone) → cond t 0 (length ts) ≡ length (cond t [] ts)
 no-rest true ts = refl
 no-rest false ts = refl
 

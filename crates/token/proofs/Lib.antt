@@ -4,7 +4,9 @@ pub mod LengthLaws
 pub mod FirstLaws
 pub mod SoundLaws
 pub mod MarkLaws
+pub mod PassLaws
 pub mod ScanLaws
+pub mod FewLaws
 pub mod OutcomeLaws
 pub mod AccountLaws
 pub mod Examples

@@ -9,7 +9,7 @@ ghost use lib.Dec.{eqb, ltb};
 ghost use mathlib.Core.List.{[], _∷_};
 ghost use Rattle.notation.specs.Search.{contains};
 ghost use Rattle.pitch.specs.Pitch.{pitchOf};
-ghost use Rattle.token.specs.Token.{fits, passes, graceBy, articulation};
+ghost use Rattle.token.specs.Token.{fits, signs, known, passes, graceBy, articulation};
 ghost use Rattle.token.specs.Scan.{scanOf, stepLengths, orGiven, dotsBy, insideFirst, endedFirst, stepFirst, stepSounds, stepMarks, oddly, noFirst, noMarks, collected};
 
 // The value of the first sub-token's digits.
@@ -227,14 +227,48 @@ pub fn fits(sounding: bool, letter: u8, count: usize) -> bool
     }
 }
 
+// The marks with a meaning, a bit each: those below 64, and those from 64 to 127.
+const LOW_MARKS: u64 = 0x0800438000000000;
+
+const HIGH_MARKS: u64 = 0x40160000E8121400;
+
+// Whether a mark has a meaning.
+fn known(b: u8) -> bool
+    ensures { λ r. ⌜ r ≡ contains b known ⌝ }
+{
+    if b < 64 {
+        return (LOW_MARKS >> b) & 1 == 1;
+    }
+    if b < 128 {
+        return (HIGH_MARKS >> (b - 64)) & 1 == 1;
+    }
+    false
+}
+
+// Whether a byte is a sign.
+pub fn is_sign(b: u8) -> bool
+    ensures { λ r. ⌜ r ≡ contains b signs ⌝ }
+{
+    if b == b'#' {
+        return true;
+    }
+    if b == b'-' {
+        return true;
+    }
+    if b == b'n' {
+        return true;
+    }
+    false
+}
+
 // Whether a mark is imported.
 pub fn passes(sounding: bool, b: u8) -> bool
     ensures { λ r. ⌜ r ≡ passes sounding b ⌝ }
 {
-    if notation::search::contains(b"#-n", b) {
+    if is_sign(b) {
         return sounding;
     }
-    notation::search::contains(b".r[]_()LJqQ'^~;Tt", b)
+    known(b)
 }
 
 // One signifier more.
@@ -432,13 +466,40 @@ pub fn scan_token(token: &[u8]) -> Scan
     let mut marks = no_marks();
     let mut i = 0;
     while i < token.len() {
-        let next = items::next_item(token, i);
-        let item = next.item;
+        let b = token[i];
+        if items::is_digit(b) {
+            let end = items::digits_end(token, i);
+            let item = Item::Digits(duration::kern_duration(&token[i..end]));
+            lengths = step_lengths(lengths, item);
+            first = step_first(first, item);
+            i = end;
+            continue;
+        }
+        if items::is_letter(b) {
+            let end = items::letter_end(token, i);
+            let item = Item::Letters {
+                letter: b,
+                count: end - i,
+            };
+            lengths = step_lengths(lengths, item);
+            first = step_first(first, item);
+            sounds = step_sounds(sounds, item);
+            i = end;
+            continue;
+        }
+        if b == b' ' {
+            lengths = step_lengths(lengths, Item::Blank);
+            first = step_first(first, Item::Blank);
+            sounds = step_sounds(sounds, Item::Blank);
+            i += 1;
+            continue;
+        }
+        let item = Item::Mark(b);
         lengths = step_lengths(lengths, item);
         first = step_first(first, item);
         sounds = step_sounds(sounds, item);
         marks = step_marks(marks, item);
-        i = next.end;
+        i += 1;
     }
     collect(lengths, first, sounds, marks)
 }

@@ -73,10 +73,3 @@ pub notify-told : (cells parts : List ℕ) (t : Tally) (number k column : ℕ) (
     ≡ landed (goes (notify number k column value (stateOf cells parts t))) out (t .at)
 unfolding notify
 notify-told cells parts t number k column value out = kept-told cells parts t (noticeOf number k column value) [] out
-
--- the same for notice 17
-pub signifiers-told : (cells parts : List ℕ) (t : Tally) (k column : ℕ) (bytes out : List ℕ)
-    → told (Goes (afterKept t (signifiersNotice k column bytes) bytes)) cells parts (laid out (t .at) (keptRecords t (signifiersNotice k column bytes) bytes))
-    ≡ landed (goes (notifySignifiers k column bytes (stateOf cells parts t))) out (t .at)
-unfolding notifySignifiers
-signifiers-told cells parts t k column bytes out = kept-told cells parts t (signifiersNotice k column bytes) bytes out

@@ -3,6 +3,7 @@ use mathlib.Core.Path.{_≡_, refl, sym, ap, ap₂, _∙_}
 use Prim.Native.Nat.{ℕ, _+_, _-_, _*_, _≤_, _<_, min}
 use native.Mathlib.Omega.{arith}
 use native.Mathlib.Nat.{zero-add, not-suc-le-zero}
+use mathlib.Core.Bool.{Bool, true, false, cond}
 use mathlib.Core.List.{List, [], _∷_, _++_, map, append-assoc, append-nil}
 use lib.ListN.{length, take, drop, length-append, length-map}
 use lib.Seq.{sets}
@@ -10,7 +11,7 @@ use borrow.Author.Tests.{lt-ltb, le-ltb}
 use Rattle.slices.specs.Store.{stored}
 use Rattle.slices.proofs.StoreLaws.{stored-sets, sets-append}
 use Rattle.token.specs.Outcome.{notePitches}
-use Rattle.token.specs.Token.{articulationsOf}
+use Rattle.token.specs.Token.{restOf, pitchesOf, articulationsOf}
 use Rattle.token.specs.declared.pitches.Tone.{Tone}
 use Rattle.items.specs.Items.{items}
 use Rattle.lists.specs.Lists.{toneBytes}
@@ -24,7 +25,7 @@ use Rattle.sheet.proofs.NoteLaws.{note-length, NOTE-length}
 use Rattle.state.specs.Lay.{past, storedAt, laid, behind}
 use Rattle.state.proofs.LayLaws.{laid-one, behind-one, stored-back}
 use Rattle.state.specs.declared.Tally.{Tally}
-use Rattle.writing.specs.Kept.{noteRecord, counted, keptRecords, afterKept}
+use Rattle.writing.specs.Kept.{noteRecord, Alone, counted, keptRecords, afterKept}
 
 -- the end of a buffer is lent for a record of n bytes, and the place moves by n
 pub wrote : (r : Record) (xs : List ℕ) (at : ℕ) {bytes ys : List ℕ} {k n p : ℕ} → recordBytes r ≡ bytes → length bytes ≡ n → k ≡ min at (length xs)
@@ -43,6 +44,12 @@ pub tones : (ts : List Tone) → pitchesBytes (map pitchOfTone ts) ≡ toneBytes
 unfolding pitchesBytes pitchBytes toneBytes
 tones [] = refl
 tones (t ∷ ts) = ap (λ (l : List ℕ). t .step ∷ t .octave ∷ twosComplement (t .alter) ∷ l) (tones ts)
+
+-- the one pitch of a token
+pub tone-alone : (token : List ℕ) (t : Tone) {a : ℕ} → a ≡ twosComplement (t .alter) → Alone token t → (length (notePitches token) ≡ 0 → ⊥)
+    → pitchBytes (record { step = t .step; octave = t .octave; alter = a }) ≡ toneBytes (notePitches token)
+unfolding pitchBytes toneBytes
+tone-alone token t e alone some = ap (λ (x : ℕ). t .step ∷ t .octave ∷ x ∷ []) e ∙ sym (ap toneBytes (alone some))
 
 pub noted-bytes : (n : Note) (token : List ℕ)
     → recordBytes (noteRecord n token) ≡ noteBytes n ++ (toneBytes (notePitches token) ++ articulationsOf (items token))
@@ -80,6 +87,14 @@ noted-length n token p a =
 pub none-put : (bytes out : List ℕ) (at : ℕ) → length bytes ≡ 0 → out ≡ sets out at bytes
 none-put [] out at e = refl
 none-put (b ∷ bytes) out at e = absurd (not-suc-le-zero {n = 0} (omega arith))
+
+-- a token with pitches is no rest
+pub sounds : (token : List ℕ) → (length (notePitches token) ≡ 0 → ⊥) → restOf (items token) ≡ false
+sounds token h = go (restOf (items token)) refl
+  where
+    go : (t : Bool) → restOf (items token) ≡ t → restOf (items token) ≡ false
+    go true e = absurd (h (ap (λ (t : Bool). length (cond t [] (pitchesOf (items token)))) e))
+    go false e = e
 
 -- a NOTE, its pitches behind it, and its articulations behind these
 pub noted : (n : Note) (token out : List ℕ) {a b c : List ℕ} → n .pitches ≡ length (notePitches token) → n .articulations ≡ length (articulationsOf (items token))

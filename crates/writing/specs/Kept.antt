@@ -1,4 +1,5 @@
 -- Notices that are kept, with the counts; a NOTE with its token's lists.
+use mathlib.Core.Path.{_≡_}
 use Prim.Native.Nat.{ℕ, _+_}
 use mathlib.Core.Bool.{cond}
 use mathlib.Core.List.{List, [], _∷_, map}
@@ -7,6 +8,7 @@ use lib.ListN.{length}
 use Rattle.items.specs.Items.{items}
 use Rattle.token.specs.Outcome.{notePitches}
 use Rattle.token.specs.Token.{articulationsOf}
+use Rattle.token.specs.declared.pitches.Tone.{Tone}
 use Rattle.sheet.specs.Record.{Record, NOTE, NOTICE}
 use Rattle.sheet.specs.declared.Note.{Note}
 use Rattle.sheet.specs.declared.Notice.{Notice}
@@ -19,6 +21,10 @@ use Rattle.state.specs.declared.Tally.{Tally}
 -- a NOTE with the pitches and articulations of its token
 abbrev pub noteRecord : Note → List ℕ → Record
 noteRecord n token = NOTE n (map pitchOfTone (notePitches token)) (articulationsOf (items token))
+
+-- a token whose note has this pitch, where it has one
+abbrev pub Alone : List ℕ → Tone → Type 0
+Alone token t = (length (notePitches token) ≡ 0 → ⊥) → notePitches token ≡ t ∷ []
 
 abbrev pub noticeOf : ℕ → ℕ → ℕ → Span → Notice
 noticeOf number k column value = record { number = number; column = column; line = k; value = value; key = empty }

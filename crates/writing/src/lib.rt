@@ -4,8 +4,10 @@ use sheet::End;
 use sheet::Note;
 use sheet::Notice;
 use sheet::Part;
+use sheet::Pitch;
 use sheet::Span;
 use state::Tally;
+use token::pitches::Tone;
 ghost use mathlib.Core.Path.{_≡_};
 ghost use mathlib.Core.List.{[], _∷_};
 ghost use Prim.Native.Nat.{_+_, _*_, _<_, _≤_, _^_};
@@ -18,7 +20,7 @@ ghost use Rattle.token.specs.Token.{articulationsOf, signifiersOf};
 ghost use Rattle.lists.specs.Lists.{pitchBytes, articulationBytes};
 ghost use Rattle.sheet.specs.Record.{BAR, PART, END, NOTICE, spanOf, recordBytes};
 ghost use Rattle.state.specs.Lay.{laid, behind};
-ghost use Rattle.writing.specs.Kept.{noteRecord, keptRecords, afterKept, noticeOf, signifiersNotice, counted};
+ghost use Rattle.writing.specs.Kept.{noteRecord, Alone, keptRecords, afterKept, noticeOf, signifiersNotice, counted};
 
 // The bytes of each record without a list.
 const BAR_BYTES: usize = 20;
@@ -77,7 +79,7 @@ fn put_signified(out: &mut [u8], notice: Notice, token: &[u8], count: usize)
         return;
     }
     sheet::put_notice(out, notice);
-    lists::put_signifiers(&mut out[24..], token);
+    lists::fill_signifiers(&mut out[24..], token);
 }
 
 // The same at a place; the place behind it.
@@ -98,7 +100,7 @@ fn add_pitches(out: &mut [u8], token: &[u8], count: usize)
     if count == 0 {
         return;
     }
-    lists::put_pitches(&mut out[28..], token);
+    lists::fill_pitches(&mut out[28..], token);
 }
 
 // The articulations of a token at a place, where there are any.
@@ -109,7 +111,7 @@ fn add_articulations(out: &mut [u8], at: usize, token: &[u8], count: usize)
     if count == 0 {
         return;
     }
-    lists::put_articulations(&mut out[at..], token);
+    lists::fill_articulations(&mut out[at..], token);
 }
 
 // A NOTE, the pitches and the articulations of its token behind it, at the start of a buffer.
@@ -136,6 +138,49 @@ pub fn write_note(out: &mut [u8], at: usize, note: Note, token: &[u8]) -> usize
     let k = spines::at_most(at, out.len());
     let long = 28 + note.pitches as usize * 3 + note.articulations as usize;
     put_noted(&mut out[k..], note, token);
+    state::past(at, long)
+}
+
+// The one pitch of a token at 28; a rest has none.
+fn add_tone(out: &mut [u8], token: &[u8], tone: Tone, count: usize)
+    requires { ⌜ (count ≡ length (notePitches (now token))) × ((28 + count * 3 ≤ length (now out)) × Alone (now token) tone) ⌝ }
+    ensures { λ _. ⌜ now (out .exit) ≡ sets (now (out .entry)) 28 (pitchBytes (now (token .entry))) ⌝ }
+{
+    if count == 0 {
+        return;
+    }
+    let pitch = Pitch {
+        step: tone.step,
+        octave: tone.octave,
+        alter: pitch::alter_byte(tone.alter),
+    };
+    sheet::put_pitch(&mut out[28..], pitch);
+}
+
+// A NOTE of one pitch or none, and the articulations of its token behind it, at the start of a buffer.
+fn put_plain(out: &mut [u8], note: Note, tone: Tone, token: &[u8])
+    requires { ⌜ (note .pitches ≡ length (notePitches (now token))) × ((note .articulations ≡ length (articulationsOf (items (now token)))) × Alone (now token) tone) ⌝ }
+    ensures { λ _. ⌜ now (out .exit) ≡ stored (now (out .entry)) (recordBytes (noteRecord note (now (token .entry)))) ⌝ }
+{
+    let pitches = note.pitches as usize;
+    let articulations = note.articulations as usize;
+    let at = 28 + pitches * 3;
+    if out.len() < at + articulations {
+        return;
+    }
+    sheet::put_note(out, note);
+    add_tone(out, token, tone, pitches);
+    add_articulations(out, at, token, articulations);
+}
+
+// The same at a place; the place behind it.
+pub fn write_plain(out: &mut [u8], at: usize, note: Note, tone: Tone, token: &[u8]) -> usize
+    requires { ⌜ (note .pitches ≡ length (notePitches (now token))) × ((note .articulations ≡ length (articulationsOf (items (now token)))) × Alone (now token) tone) ⌝ }
+    ensures { λ r. ⌜ (now (out .exit) ≡ laid (now (out .entry)) at (noteRecord note (now (token .entry)) ∷ [])) × (r ≡ behind at (noteRecord note (now (token .entry)) ∷ [])) ⌝ }
+{
+    let k = spines::at_most(at, out.len());
+    let long = 28 + note.pitches as usize * 3 + note.articulations as usize;
+    put_plain(&mut out[k..], note, tone, token);
     state::past(at, long)
 }
 

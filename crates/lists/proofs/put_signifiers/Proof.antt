@@ -1,69 +1,26 @@
--- What is stored, and what the items left give, are all.
-use mathlib.Core.Path.{refl, sym}
-use mathlib.Core.Bool.{false}
-use Prim.Native.Nat.{_-_}
-use native.Mathlib.Omega.{arith}
-use lib.ListN.{length}
-use borrow.Author.Needs.{needs}
+-- The scan tells whether there is room.
+use mathlib.Core.Path.{sym}
 use Rattle.slices.proofs.StoreLaws.{stored-not}
-use Rattle.items.proofs.RunLaws.{next-at}
-use Rattle.token.specs.Token.{signifiers}
-use Rattle.lists.specs.Lists.{signifierBytes, signifierIn, soundingAfter}
-use Rattle.lists.proofs.FillLaws.{fill-as, fill-length, fill-past, Writing, write-first, write-room, write-turn, write-left}
-use Rattle.lists.proofs.ItemLaws.{signifiers-more, signifiers-none}
-use Rattle.lists.proofs.CountLaws.{count-signifiers, signifiers-next}
+use Rattle.lists.proofs.CountLaws.{count-signifiers}
+use borrow.Author.Needs.{needs}
 use Rattle.lists.proofs.put_signifiers.Statement.{statement}
 use Rattle.lists.proofs.put_signifiers.Tie as tie
 
-abbrev Inv-loop : tie.InvT-loop
-Inv-loop out₀ token sounding₀ k₀ i₀ out sounding k i = Writing out₀ (signifierBytes token) out token k i (signifiers sounding)
-
-abbrev μ-loop : tie.MeasureT-loop
-μ-loop out₀ token sounding₀ k₀ i₀ out sounding k i = length token - i
-
-scan-token-requires : tie.Need-scan-token-requires Inv-loop μ-loop
+scan-token-requires : tie.Need-scan-token-requires
 scan-token-requires c κs = search needs
 
-returns : tie.Need-returns Inv-loop μ-loop
+returns : tie.Need-returns
 returns c = sym (stored-not _ _ (rw (count-signifiers _ (c .before .before .scan-token .ensures)) at (c .if1 .taken)))
 
-loop-holds : tie.Need-loop-holds Inv-loop μ-loop
-loop-holds c = write-first (signifiers false) refl (rw (count-signifiers _ (c .before .before .scan-token .ensures)) at (c .if1 .left))
+fill-signifiers-requires : tie.Need-fill-signifiers-requires
+fill-signifiers-requires c κs = rw (count-signifiers _ (c .before .before .before .scan-token .ensures)) at (c .before .if1 .left)
 
-next-item-requires : tie.Need-next-item-requires Inv-loop μ-loop
-next-item-requires c κs = search needs
+same-length : tie.Need-same-length
+same-length c = search needs
 
-put-signifier-requires : tie.Need-put-signifier-requires Inv-loop μ-loop
-put-signifier-requires c κs = write-room (c .before .before .before .loop .inv) (signifierIn (c .before .before .before .loop .sounding) (c .before .next-item .result .item)) (signifiers (soundingAfter (c .before .before .before .loop .sounding) (c .before .next-item .result .item))) (next-at (c .before .before .loop-test .taken) (c .before .next-item .ensures)) (signifiers-more (c .before .before .before .loop .sounding) (c .before .next-item .result .item))
-
-sounding-after-requires : tie.Need-sounding-after-requires Inv-loop μ-loop
-sounding-after-requires c κs = search needs
-
-loop-less : tie.Need-loop-less Inv-loop μ-loop
-loop-less c = let at = next-at (c .before .before .before .before .before .before .loop-test .taken) (c .before .before .before .before .before .next-item .ensures) in omega (arith, at .on, at .high)
-
-loop-again : tie.Need-loop-again Inv-loop μ-loop
-loop-again c = write-turn (c .before .before .before .before .before .before .before .loop .inv) (signifierIn (c .before .before .before .before .before .before .before .loop .sounding) (c .before .before .before .before .before .next-item .result .item)) (signifiers (c .sounding-after .result)) (next-at (c .before .before .before .before .before .before .loop-test .taken) (c .before .before .before .before .before .next-item .ensures)) (signifiers-next (c .before .before .before .before .before .before .before .loop .sounding) (c .before .before .before .before .before .next-item .result .item) (c .sounding-after .ensures)) (c .before .before .before .put-signifier .ensures .0) (c .before .before .before .put-signifier .ensures .1)
-
-same-length : tie.Need-same-length Inv-loop μ-loop
-same-length c = fill-length (c .before .loop .inv .fill)
-
-returns-2 : tie.Need-returns-2 Inv-loop μ-loop
-returns-2 c = fill-past (fill-as (signifiers-none _) (write-left (c .before .loop .inv) (c .loop-test .left)))
+returns-2 : tie.Need-returns-2
+returns-2 c = search needs
 
 pub put-signifiers-spec : {M : Type 1} → statement M
 put-signifiers-spec =
-    tie.close
-    (tie.spec
-    Inv-loop
-    μ-loop
-    scan-token-requires
-    returns
-    loop-holds
-    next-item-requires
-    put-signifier-requires
-    sounding-after-requires
-    loop-less
-    loop-again
-    same-length
-    returns-2)
+    tie.close (tie.spec scan-token-requires returns fill-signifiers-requires same-length returns-2)

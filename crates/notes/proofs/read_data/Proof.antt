@@ -26,13 +26,16 @@ same-length-2 c = search needs
 returns : tie.Need-returns Inv-loop μ-loop
 returns c = (data-past (c .before .before .loop .inv) (c .if1 .taken), c .before .before .loop .inv .kept)
 
-token-end-requires : tie.Need-token-end-requires Inv-loop μ-loop
-token-end-requires c κs = search needs
+shape-of-requires : tie.Need-shape-of-requires Inv-loop μ-loop
+shape-of-requires c κs = search needs
 
-read-column-requires : tie.Need-read-column-requires Inv-loop μ-loop
-read-column-requires c κs =
-    let p = piece-at (c .before .before .before .if1 .left) (c .before .before .token-end .ensures) in
-    (data-ready (c .before .before .before .before .before .loop .inv) (c .before .before .before .before .before .before .before .before .before .before .pre .0), (c .before .before .before .before .before .before .before .before .before .before .pre .1 .0, (c .before .before .before .before .loop-test .taken, (p .low, p .high))))
+end-of-requires : tie.Need-end-of-requires Inv-loop μ-loop
+end-of-requires c κs = c .shape-of .ensures
+
+read-shape-requires : tie.Need-read-shape-requires Inv-loop μ-loop
+read-shape-requires c κs =
+    let p = piece-at (c .before .before .before .before .if1 .left) (c .before .before .end-of .ensures) in
+    ((data-ready (c .before .before .before .before .before .before .loop .inv) (c .before .before .before .before .before .before .before .before .before .before .before .pre .0), (c .before .before .before .before .before .before .before .before .before .before .before .pre .1 .0, (c .before .before .before .before .before .loop-test .taken, (p .low, p .high)))), (c .before .before .before .shape-of .ensures, c .before .before .end-of .ensures))
 
 enum-told : tie.Need-enum-told Inv-loop μ-loop
 enum-told c = search needs
@@ -44,7 +47,7 @@ same-length-4 : tie.Need-same-length-4 Inv-loop μ-loop
 same-length-4 c = search needs
 
 returns-2 : tie.Need-returns-2 Inv-loop μ-loop
-returns-2 c = (data-stops (c .before .before .before .before .before .before .before .before .before .before .before .before .loop .inv) (c .before .before .before .before .before .before .read-column .last .1 .1 .1 .0) (c .before .before .before .before .before .before .read-column .last .1 .1 .1 .1 .1 .0) (c .before .before .before .before .before .before .read-column .result) (c .before .before .before .before .before .before .before .before .before .before .before .loop-test .taken) (piece-at (c .before .before .before .before .before .before .before .before .before .before .if1 .left) (c .before .before .before .before .before .before .before .before .before .token-end .ensures)) (c .before .before .before .before .before .before .read-column .ensures .0) (c .before .before .before .before .before .before .read-column .ensures .1) (c .enum-told .given .1), data-kept (c .before .before .before .before .before .before .before .before .before .before .before .before .loop .inv) (c .before .before .before .before .before .before .read-column .last .1 .1 .1 .0) (c .before .before .before .before .before .before .read-column .last .1 .1 .1 .1 .1 .0) (c .before .before .before .before .before .before .read-column .result) (c .before .before .before .before .before .before .before .before .before .before .before .loop-test .taken) (piece-at (c .before .before .before .before .before .before .before .before .before .before .if1 .left) (c .before .before .before .before .before .before .before .before .before .token-end .ensures)) (c .before .before .before .before .before .before .read-column .ensures .0) (c .before .before .before .before .before .before .read-column .ensures .1))
+returns-2 c = (data-stops (c .before .before .before .before .before .before .before .before .before .before .before .before .before .loop .inv) (c .before .before .before .before .before .before .read-shape .last .1 .1 .1 .1 .0) (c .before .before .before .before .before .before .read-shape .last .1 .1 .1 .1 .1 .1 .0) (c .before .before .before .before .before .before .read-shape .result) (c .before .before .before .before .before .before .before .before .before .before .before .before .loop-test .taken) (piece-at (c .before .before .before .before .before .before .before .before .before .before .before .if1 .left) (c .before .before .before .before .before .before .before .before .before .end-of .ensures)) (c .before .before .before .before .before .before .read-shape .ensures .0) (c .before .before .before .before .before .before .read-shape .ensures .1) (c .enum-told .given .1), data-kept (c .before .before .before .before .before .before .before .before .before .before .before .before .before .loop .inv) (c .before .before .before .before .before .before .read-shape .last .1 .1 .1 .1 .0) (c .before .before .before .before .before .before .read-shape .last .1 .1 .1 .1 .1 .1 .0) (c .before .before .before .before .before .before .read-shape .result) (c .before .before .before .before .before .before .before .before .before .before .before .before .loop-test .taken) (piece-at (c .before .before .before .before .before .before .before .before .before .before .before .if1 .left) (c .before .before .before .before .before .before .before .before .before .end-of .ensures)) (c .before .before .before .before .before .before .read-shape .ensures .0) (c .before .before .before .before .before .before .read-shape .ensures .1))
 
 enum-told-2 : tie.Need-enum-told-2 Inv-loop μ-loop
 enum-told-2 c = search needs
@@ -56,22 +59,22 @@ same-length-6 : tie.Need-same-length-6 Inv-loop μ-loop
 same-length-6 c = search needs
 
 returns-3 : tie.Need-returns-3 Inv-loop μ-loop
-returns-3 c = (data-ends (c .before .before .before .before .before .before .before .before .before .before .before .before .loop .inv) (c .before .before .before .before .before .before .read-column .last .1 .1 .1 .0) (c .before .before .before .before .before .before .read-column .last .1 .1 .1 .1 .1 .0) (c .before .before .before .before .before .before .read-column .result) (c .before .before .before .before .before .before .before .before .before .before .before .loop-test .taken) (piece-at (c .before .before .before .before .before .before .before .before .before .before .if1 .left) (c .before .before .before .before .before .before .before .before .before .token-end .ensures)) (c .before .before .before .before .before .before .read-column .ensures .0) (c .before .before .before .before .before .before .read-column .ensures .1) (c .enum-told2 .given .1), data-kept (c .before .before .before .before .before .before .before .before .before .before .before .before .loop .inv) (c .before .before .before .before .before .before .read-column .last .1 .1 .1 .0) (c .before .before .before .before .before .before .read-column .last .1 .1 .1 .1 .1 .0) (c .before .before .before .before .before .before .read-column .result) (c .before .before .before .before .before .before .before .before .before .before .before .loop-test .taken) (piece-at (c .before .before .before .before .before .before .before .before .before .before .if1 .left) (c .before .before .before .before .before .before .before .before .before .token-end .ensures)) (c .before .before .before .before .before .before .read-column .ensures .0) (c .before .before .before .before .before .before .read-column .ensures .1))
+returns-3 c = (data-ends (c .before .before .before .before .before .before .before .before .before .before .before .before .before .loop .inv) (c .before .before .before .before .before .before .read-shape .last .1 .1 .1 .1 .0) (c .before .before .before .before .before .before .read-shape .last .1 .1 .1 .1 .1 .1 .0) (c .before .before .before .before .before .before .read-shape .result) (c .before .before .before .before .before .before .before .before .before .before .before .before .loop-test .taken) (piece-at (c .before .before .before .before .before .before .before .before .before .before .before .if1 .left) (c .before .before .before .before .before .before .before .before .before .end-of .ensures)) (c .before .before .before .before .before .before .read-shape .ensures .0) (c .before .before .before .before .before .before .read-shape .ensures .1) (c .enum-told2 .given .1), data-kept (c .before .before .before .before .before .before .before .before .before .before .before .before .before .loop .inv) (c .before .before .before .before .before .before .read-shape .last .1 .1 .1 .1 .0) (c .before .before .before .before .before .before .read-shape .last .1 .1 .1 .1 .1 .1 .0) (c .before .before .before .before .before .before .read-shape .result) (c .before .before .before .before .before .before .before .before .before .before .before .before .loop-test .taken) (piece-at (c .before .before .before .before .before .before .before .before .before .before .before .if1 .left) (c .before .before .before .before .before .before .before .before .before .end-of .ensures)) (c .before .before .before .before .before .before .read-shape .ensures .0) (c .before .before .before .before .before .before .read-shape .ensures .1))
 
 enum-known-step : tie.Need-enum-known-step Inv-loop μ-loop
 enum-known-step c = search needs
 
 add-from : tie.Need-add-from Inv-loop μ-loop
-add-from c = let p = piece-at (c .before .before .before .before .before .before .before .before .before .before .before .if1 .left) (c .before .before .before .before .before .before .before .before .before .before .token-end .ensures) in omega (arith, p .high, c .before .before .before .before .before .before .before .before .before .before .before .before .before .before .before .before .before .before .pre .1 .0)
+add-from c = let p = piece-at (c .before .before .before .before .before .before .before .before .before .before .before .before .if1 .left) (c .before .before .before .before .before .before .before .before .before .before .end-of .ensures) in omega (arith, p .high, c .before .before .before .before .before .before .before .before .before .before .before .before .before .before .before .before .before .before .before .pre .1 .0)
 
 add-i : tie.Need-add-i Inv-loop μ-loop
-add-i c = omega (arith, c .before .before .before .before .before .before .before .before .before .before .before .before .loop-test .taken, c .before .before .before .before .before .before .before .before .before .before .before .before .before .before .before .before .before .before .pre .0 .cells-long)
+add-i c = omega (arith, c .before .before .before .before .before .before .before .before .before .before .before .before .before .loop-test .taken, c .before .before .before .before .before .before .before .before .before .before .before .before .before .before .before .before .before .before .before .pre .0 .cells-long)
 
 loop-less : tie.Need-loop-less Inv-loop μ-loop
 loop-less c = omega arith
 
 loop-again : tie.Need-loop-again Inv-loop μ-loop
-loop-again c = data-turn (c .before .before .before .before .before .before .before .before .before .before .before .before .before .loop .inv) (c .before .before .before .before .before .before .before .read-column .last .1 .1 .1 .0) (c .before .before .before .before .before .before .before .read-column .last .1 .1 .1 .1 .1 .0) (c .before .before .before .before .before .before .before .read-column .result) (c .before .before .before .before .before .before .before .before .before .before .before .before .loop-test .taken) (piece-at (c .before .before .before .before .before .before .before .before .before .before .before .if1 .left) (c .before .before .before .before .before .before .before .before .before .before .token-end .ensures)) (c .before .before .before .before .before .before .before .read-column .ensures .0) (c .before .before .before .before .before .before .before .read-column .ensures .1) (c .before .step .given .1) (c .before .before .before .before .before .before .before .read-column .kept .1 .1 .1 .0) (c .before .before .before .before .before .before .before .read-column .kept .1 .1 .1 .1 .1 .0)
+loop-again c = data-turn (c .before .before .before .before .before .before .before .before .before .before .before .before .before .before .loop .inv) (c .before .before .before .before .before .before .before .read-shape .last .1 .1 .1 .1 .0) (c .before .before .before .before .before .before .before .read-shape .last .1 .1 .1 .1 .1 .1 .0) (c .before .before .before .before .before .before .before .read-shape .result) (c .before .before .before .before .before .before .before .before .before .before .before .before .before .loop-test .taken) (piece-at (c .before .before .before .before .before .before .before .before .before .before .before .before .if1 .left) (c .before .before .before .before .before .before .before .before .before .before .end-of .ensures)) (c .before .before .before .before .before .before .before .read-shape .ensures .0) (c .before .before .before .before .before .before .before .read-shape .ensures .1) (c .before .step .given .1) (c .before .before .before .before .before .before .before .read-shape .kept .1 .1 .1 .1 .0) (c .before .before .before .before .before .before .before .read-shape .kept .1 .1 .1 .1 .1 .1 .0)
 
 same-length-7 : tie.Need-same-length-7 Inv-loop μ-loop
 same-length-7 c = search needs
@@ -92,8 +95,9 @@ read-data-spec =
     same-length
     same-length-2
     returns
-    token-end-requires
-    read-column-requires
+    shape-of-requires
+    end-of-requires
+    read-shape-requires
     enum-told
     same-length-3
     same-length-4

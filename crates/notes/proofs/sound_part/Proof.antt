@@ -1,4 +1,4 @@
--- The part's cells are lent and come back; its beam goes by the letters of the token.
+-- The part's cells are lent and come back; its beam goes by the letters.
 use mathlib.Core.Path.{_≡_}
 use Prim.Native.Nat.{_+_, _-_, _*_}
 use native.Mathlib.Omega.{arith}
@@ -6,9 +6,6 @@ use borrow.Author.Needs.{needs}
 use Rattle.notes.proofs.BeamLaws.{part-sounded}
 use Rattle.notes.proofs.sound_part.Statement.{statement}
 use Rattle.notes.proofs.sound_part.Tie as tie
-
-beam-letters-requires : tie.Need-beam-letters-requires
-beam-letters-requires c κs = search needs
 
 mul-a : tie.Need-mul-a
 mul-a c = search needs
@@ -36,14 +33,13 @@ same-length c = search needs
 
 returns : tie.Need-returns
 returns c =
-    let k : (c .before .before .before .before .before .before .before .args .part * 35 + 35) - c .before .before .before .before .before .before .before .args .part * 35 ≡ 35 = omega arith in
-    part-sounded (c .before .before .before .before .before .before .before .args .count) (c .before .before .before .before .before .before .before .args .part) (c .before .before .before .before .before .before .before .args .voice) (c .before .before .before .before .before .before .before .args .part * 35 + 35 - c .before .before .before .before .before .before .before .args .part * 35) (c .before .before .before .before .before .before .before .args .parts .now) (c .before .before .sound .last .0) (c .before .before .before .before .before .before .before .args .token .now) (c .before .before .before .before .before .before .before .pre .0) (c .before .before .before .before .before .before .before .pre .1 .0) (c .before .before .before .before .before .before .before .pre .1 .1 .0) k (c .before .before .before .before .beam-letters .ensures) (c .before .before .sound .kept .0) (c .before .before .sound .ensures .0) (c .before .before .sound .ensures .1)
+    let k : (c .before .before .before .before .before .args .part * 35 + 35) - c .before .before .before .before .before .args .part * 35 ≡ 35 = omega arith in
+    part-sounded (c .before .before .before .before .before .args .count) (c .before .before .before .before .before .args .part) (c .before .before .before .before .before .args .voice) (c .before .before .before .before .before .args .part * 35 + 35 - c .before .before .before .before .before .args .part * 35) (c .before .before .before .before .before .args .parts .now) (c .before .before .sound .last .0) (c .before .before .before .before .before .args .starts) (c .before .before .before .before .before .args .ends) (c .before .before .before .before .before .pre .0) (c .before .before .before .before .before .pre .1 .0) (c .before .before .before .before .before .pre .1 .1 .0) k (c .before .before .sound .kept .0) (c .before .before .sound .ensures .0) (c .before .before .sound .ensures .1)
 
 pub sound-part-spec : {M : Type 1} → statement M
 sound-part-spec =
     tie.close
     (tie.spec
-    beam-letters-requires
     mul-a
     add-e
     mul-sound

@@ -10,32 +10,32 @@ use Rattle.writing.proofs.add_articulations.Tie as tie
 returns : tie.Need-returns
 returns c = none-put (articulationBytes (c .before .before .before .args .token .now)) (c .before .before .before .args .out .now) (c .before .before .before .args .at) (omega arith)
 
-sub-put-articulations : tie.Need-sub-put-articulations
-sub-put-articulations c = search needs
+sub-fill-articulations : tie.Need-sub-fill-articulations
+sub-fill-articulations c = search needs
 
-part-put-articulations-start : tie.Need-part-put-articulations-start
-part-put-articulations-start c = search needs
+part-fill-articulations-start : tie.Need-part-fill-articulations-start
+part-fill-articulations-start c = search needs
 
-part-put-articulations-end : tie.Need-part-put-articulations-end
-part-put-articulations-end c = search needs
+part-fill-articulations-end : tie.Need-part-fill-articulations-end
+part-fill-articulations-end c = search needs
 
-put-articulations-requires : tie.Need-put-articulations-requires
-put-articulations-requires c κs = search needs
+fill-articulations-requires : tie.Need-fill-articulations-requires
+fill-articulations-requires c κs = search needs
 
 same-length : tie.Need-same-length
 same-length c = search needs
 
 returns-2 : tie.Need-returns-2
-returns-2 c = stored-tail (articulationBytes (c .before .before .before .before .before .before .before .args .token .now)) (c .before .before .before .before .before .before .before .args .out .now) (c .before .before .put-articulations .last .0) (c .before .before .before .before .before .before .before .args .at) (omega arith) (c .before .before .put-articulations .ensures)
+returns-2 c = stored-tail (articulationBytes (c .before .before .before .before .before .before .before .args .token .now)) (c .before .before .before .before .before .before .before .args .out .now) (c .before .before .fill-articulations .last .0) (c .before .before .before .before .before .before .before .args .at) (omega arith) (c .before .before .fill-articulations .ensures)
 
 pub add-articulations-spec : {M : Type 1} → statement M
 add-articulations-spec =
     tie.close
     (tie.spec
     returns
-    sub-put-articulations
-    part-put-articulations-start
-    part-put-articulations-end
-    put-articulations-requires
+    sub-fill-articulations
+    part-fill-articulations-start
+    part-fill-articulations-end
+    fill-articulations-requires
     same-length
     returns-2)

@@ -26,24 +26,24 @@ returns-2 c = sym (stored-not _ _ (omega (arith, NOTICE-length (c .before .befor
 put-notice-requires : tie.Need-put-notice-requires
 put-notice-requires c κs = search needs
 
-sub-put-signifiers : tie.Need-sub-put-signifiers
-sub-put-signifiers c = search needs
+sub-fill-signifiers : tie.Need-sub-fill-signifiers
+sub-fill-signifiers c = search needs
 
-part-put-signifiers-start : tie.Need-part-put-signifiers-start
-part-put-signifiers-start c = search needs
+part-fill-signifiers-start : tie.Need-part-fill-signifiers-start
+part-fill-signifiers-start c = search needs
 
-part-put-signifiers-end : tie.Need-part-put-signifiers-end
-part-put-signifiers-end c = search needs
+part-fill-signifiers-end : tie.Need-part-fill-signifiers-end
+part-fill-signifiers-end c = search needs
 
-put-signifiers-requires : tie.Need-put-signifiers-requires
-put-signifiers-requires c κs = search needs
+fill-signifiers-requires : tie.Need-fill-signifiers-requires
+fill-signifiers-requires c κs = search needs
 
 same-length : tie.Need-same-length
 same-length c = search needs
 
 returns-3 : tie.Need-returns-3
 unfolding recordBytes
-returns-3 c = let bytes = signifiersOf (items (c .before .before .before .before .before .before .before .before .before .before .before .before .args .token .now)) in let l : length (c .before .before .before .before .before .before .put-notice .last .0) ≡ length (c .before .before .before .before .before .before .before .before .before .before .before .before .args .out .now) = ap length (c .before .before .before .before .before .before .put-notice .ensures) ∙ stored-length (c .before .before .before .before .before .before .before .before .before .before .before .before .args .out .now) (noticeBytes (c .before .before .before .before .before .before .before .before .before .before .before .before .args .notice)) in let h : 24 + length bytes ≤ length (c .before .before .before .before .before .before .before .before .before .before .before .before .args .out .now) = omega arith in stored-more (noticeBytes (c .before .before .before .before .before .before .before .before .before .before .before .before .args .notice)) bytes (c .before .before .before .before .before .before .before .before .before .before .before .before .args .out .now) (notice-length (c .before .before .before .before .before .before .before .before .before .before .before .before .args .notice)) h (c .before .before .before .before .before .before .put-notice .ensures) (stored-tail bytes (c .before .before .before .before .before .before .put-notice .last .0) (c .before .before .put-signifiers .last .0) 24 (omega arith) (c .before .before .put-signifiers .ensures))
+returns-3 c = let bytes = signifiersOf (items (c .before .before .before .before .before .before .before .before .before .before .before .before .args .token .now)) in let l : length (c .before .before .before .before .before .before .put-notice .last .0) ≡ length (c .before .before .before .before .before .before .before .before .before .before .before .before .args .out .now) = ap length (c .before .before .before .before .before .before .put-notice .ensures) ∙ stored-length (c .before .before .before .before .before .before .before .before .before .before .before .before .args .out .now) (noticeBytes (c .before .before .before .before .before .before .before .before .before .before .before .before .args .notice)) in let h : 24 + length bytes ≤ length (c .before .before .before .before .before .before .before .before .before .before .before .before .args .out .now) = omega arith in stored-more (noticeBytes (c .before .before .before .before .before .before .before .before .before .before .before .before .args .notice)) bytes (c .before .before .before .before .before .before .before .before .before .before .before .before .args .out .now) (notice-length (c .before .before .before .before .before .before .before .before .before .before .before .before .args .notice)) h (c .before .before .before .before .before .before .put-notice .ensures) (stored-tail bytes (c .before .before .before .before .before .before .put-notice .last .0) (c .before .before .fill-signifiers .last .0) 24 (omega arith) (c .before .before .fill-signifiers .ensures))
 
 pub put-signified-spec : {M : Type 1} → statement M
 put-signified-spec =
@@ -53,9 +53,9 @@ put-signified-spec =
     sub-if2
     returns-2
     put-notice-requires
-    sub-put-signifiers
-    part-put-signifiers-start
-    part-put-signifiers-end
-    put-signifiers-requires
+    sub-fill-signifiers
+    part-fill-signifiers-start
+    part-fill-signifiers-end
+    fill-signifiers-requires
     same-length
     returns-3)

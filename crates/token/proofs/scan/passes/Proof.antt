@@ -5,33 +5,19 @@ use borrow.Author.Needs.{needs}
 use Rattle.token.proofs.scan.passes.Statement.{statement}
 use Rattle.token.proofs.scan.passes.Tie as tie
 
-slice-aggregate-contains : tie.Need-slice-aggregate-contains
-slice-aggregate-contains c = search needs
-
-contains-requires : tie.Need-contains-requires
-contains-requires c κs = search needs
+is-sign-requires : tie.Need-is-sign-requires
+is-sign-requires c κs = search needs
 
 returns : tie.Need-returns
 unfolding passes
-returns c = rw (sym (c .before .contains .ensures) ∙ c .if1 .taken)
+returns c = rw (sym (c .before .is-sign .ensures) ∙ c .if1 .taken)
 
-slice-aggregate-contains-2 : tie.Need-slice-aggregate-contains-2
-slice-aggregate-contains-2 c = search needs
-
-contains-requires-2 : tie.Need-contains-requires-2
-contains-requires-2 c κs = search needs
+known-requires : tie.Need-known-requires
+known-requires c κs = search needs
 
 returns-2 : tie.Need-returns-2
 unfolding passes
-returns-2 c = rw (sym (c .before .before .before .contains .ensures) ∙ c .before .before .if1 .left) (c .contains2 .ensures)
+returns-2 c = rw (sym (c .before .before .is-sign .ensures) ∙ c .before .if1 .left) (c .known .ensures)
 
 pub passes-spec : {M : Type 1} → statement M
-passes-spec =
-    tie.close
-    (tie.spec
-    slice-aggregate-contains
-    contains-requires
-    returns
-    slice-aggregate-contains-2
-    contains-requires-2
-    returns-2)
+passes-spec = tie.close (tie.spec is-sign-requires returns known-requires returns-2)

@@ -1,9 +1,10 @@
--- Each of the four states, carried on over the items left, gives what it gives over all from the start.
+-- Each of the four states, carried on over the items left, gives what it gives over all from the start; the byte at i decides the item there.
+use mathlib.Core.Path.{refl, sym, _∙_}
 use Prim.Native.Nat.{_-_}
 use native.Mathlib.Omega.{arith}
 use lib.ListN.{length}
 use borrow.Author.Needs.{needs}
-use Rattle.items.proofs.RunLaws.{next-at}
+use Rattle.items.proofs.NextLaws.{end-on, next-digits, next-letters, next-blank, next-mark}
 use Rattle.token.proofs.ScanLaws.{Scanning, scan-first, scan-turn, scan-past}
 use Rattle.token.proofs.scan.scan_token.Statement.{statement}
 use Rattle.token.proofs.scan.scan_token.Tie as tie
@@ -23,8 +24,26 @@ no-marks-requires c κs = search needs
 loop-holds : tie.Need-loop-holds Inv-loop μ-loop
 loop-holds c = scan-first (c .before .no-first .ensures) (c .no-marks .ensures)
 
-next-item-requires : tie.Need-next-item-requires Inv-loop μ-loop
-next-item-requires c κs = search needs
+shared-slice-read-b : tie.Need-shared-slice-read-b Inv-loop μ-loop
+shared-slice-read-b c = omega arith
+
+is-digit-requires : tie.Need-is-digit-requires Inv-loop μ-loop
+is-digit-requires c κs = search needs
+
+digits-end-requires : tie.Need-digits-end-requires Inv-loop μ-loop
+digits-end-requires c κs = (c .before .before .before .loop-test .taken, sym (c .before .is-digit .ensures) ∙ c .if1 .taken)
+
+sub-kern-duration : tie.Need-sub-kern-duration Inv-loop μ-loop
+sub-kern-duration c = omega (arith, c .digits-end .ensures)
+
+part-kern-duration-start : tie.Need-part-kern-duration-start Inv-loop μ-loop
+part-kern-duration-start c = omega (arith, c .digits-end .ensures)
+
+part-kern-duration-end : tie.Need-part-kern-duration-end Inv-loop μ-loop
+part-kern-duration-end c = end-on _ _ (c .before .before .before .before .loop-test .taken) (c .digits-end .ensures) .1
+
+kern-duration-requires : tie.Need-kern-duration-requires Inv-loop μ-loop
+kern-duration-requires c κs = search needs
 
 step-lengths-requires : tie.Need-step-lengths-requires Inv-loop μ-loop
 step-lengths-requires c κs = search needs
@@ -32,17 +51,74 @@ step-lengths-requires c κs = search needs
 step-first-requires : tie.Need-step-first-requires Inv-loop μ-loop
 step-first-requires c κs = search needs
 
-step-sounds-requires : tie.Need-step-sounds-requires Inv-loop μ-loop
-step-sounds-requires c κs = (omega (arith, c .before .before .before .before .loop .inv .pitches, c .before .before .before .loop-test .taken), omega (arith, c .before .before .before .before .loop .inv .signifiers, c .before .before .before .loop-test .taken))
-
-step-marks-requires : tie.Need-step-marks-requires Inv-loop μ-loop
-step-marks-requires c κs = omega (arith, c .before .before .before .before .before .loop .inv .articulations, c .before .before .before .before .loop-test .taken)
-
 loop-less : tie.Need-loop-less Inv-loop μ-loop
-loop-less c = let at = next-at (c .before .before .before .before .before .loop-test .taken) (c .before .before .before .before .next-item .ensures) in omega (arith, at .on, at .high)
+loop-less c = omega (arith, end-on _ _ (c .before .before .before .before .before .before .before .before .loop-test .taken) (c .before .before .before .before .digits-end .ensures))
 
 loop-again : tie.Need-loop-again Inv-loop μ-loop
-loop-again c = scan-turn (c .before .before .before .before .before .before .loop .inv) (c .before .before .before .before .before .loop-test .taken) (c .before .before .before .before .next-item .ensures) (c .before .before .before .step-lengths .ensures) (c .before .before .step-first .ensures) (c .before .step-sounds .ensures) (c .step-marks .ensures)
+loop-again c = scan-turn (c .before .before .before .before .before .before .before .before .before .loop .inv) (c .before .before .before .before .before .before .before .before .loop-test .taken) (next-digits _ _ (c .before .before .before .before .before .before .before .before .loop-test .taken) (c .before .before .before .before .digits-end .ensures) (c .before .before .before .before .before .before .is-digit .ensures) (c .before .before .before .before .before .if1 .taken) (c .before .before .kern-duration .ensures)) (c .before .step-lengths .ensures) (c .step-first .ensures) refl refl
+
+is-letter-requires : tie.Need-is-letter-requires Inv-loop μ-loop
+is-letter-requires c κs = search needs
+
+letter-end-requires : tie.Need-letter-end-requires Inv-loop μ-loop
+letter-end-requires c κs = (c .before .before .before .before .before .loop-test .taken, sym (c .before .is-letter .ensures) ∙ c .if2 .taken)
+
+sub-t24 : tie.Need-sub-t24 Inv-loop μ-loop
+sub-t24 c = omega (arith, c .letter-end .ensures)
+
+step-lengths-requires-2 : tie.Need-step-lengths-requires-2 Inv-loop μ-loop
+step-lengths-requires-2 c κs = search needs
+
+step-first-requires-2 : tie.Need-step-first-requires-2 Inv-loop μ-loop
+step-first-requires-2 c κs = search needs
+
+step-sounds-requires : tie.Need-step-sounds-requires Inv-loop μ-loop
+step-sounds-requires c κs = (omega (arith, c .before .before .before .before .before .before .before .before .before .loop .inv .pitches, c .before .before .before .before .before .before .before .before .loop-test .taken), omega (arith, c .before .before .before .before .before .before .before .before .before .loop .inv .signifiers, c .before .before .before .before .before .before .before .before .loop-test .taken))
+
+loop-less-2 : tie.Need-loop-less-2 Inv-loop μ-loop
+loop-less-2 c = omega (arith, end-on _ _ (c .before .before .before .before .before .before .before .before .before .loop-test .taken) (c .before .before .before .letter-end .ensures))
+
+loop-again-2 : tie.Need-loop-again-2 Inv-loop μ-loop
+loop-again-2 c = scan-turn (c .before .before .before .before .before .before .before .before .before .before .loop .inv) (c .before .before .before .before .before .before .before .before .before .loop-test .taken) (next-letters _ _ (c .before .before .before .before .before .before .before .before .before .loop-test .taken) (c .before .before .before .letter-end .ensures) (c .before .before .before .before .before .before .before .is-digit .ensures) (c .before .before .before .before .before .before .if1 .left) (c .before .before .before .before .before .is-letter .ensures) (c .before .before .before .before .if2 .taken)) (c .before .before .step-lengths2 .ensures) (c .before .step-first2 .ensures) (c .step-sounds .ensures) refl
+
+step-lengths-requires-3 : tie.Need-step-lengths-requires-3 Inv-loop μ-loop
+step-lengths-requires-3 c κs = search needs
+
+step-first-requires-3 : tie.Need-step-first-requires-3 Inv-loop μ-loop
+step-first-requires-3 c κs = search needs
+
+step-sounds-requires-2 : tie.Need-step-sounds-requires-2 Inv-loop μ-loop
+step-sounds-requires-2 c κs = (omega (arith, c .before .before .before .before .before .before .before .before .before .loop .inv .pitches, c .before .before .before .before .before .before .before .before .loop-test .taken), omega (arith, c .before .before .before .before .before .before .before .before .before .loop .inv .signifiers, c .before .before .before .before .before .before .before .before .loop-test .taken))
+
+add-i : tie.Need-add-i Inv-loop μ-loop
+add-i c = omega (arith, c .before .before .before .before .before .before .before .before .before .loop-test .taken)
+
+loop-less-3 : tie.Need-loop-less-3 Inv-loop μ-loop
+loop-less-3 c = omega (arith, c .before .before .before .before .before .before .before .before .before .loop-test .taken)
+
+loop-again-3 : tie.Need-loop-again-3 Inv-loop μ-loop
+loop-again-3 c = scan-turn (c .before .before .before .before .before .before .before .before .before .before .loop .inv) (c .before .before .before .before .before .before .before .before .before .loop-test .taken) (next-blank _ _ (c .before .before .before .before .before .before .before .before .before .loop-test .taken) (c .before .before .before .before .before .before .before .is-digit .ensures) (c .before .before .before .before .before .before .if1 .left) (c .before .before .before .before .before .is-letter .ensures) (c .before .before .before .before .if2 .left) (c .before .before .before .if3 .taken)) (c .before .before .step-lengths3 .ensures) (c .before .step-first3 .ensures) (c .step-sounds2 .ensures) refl
+
+step-lengths-requires-4 : tie.Need-step-lengths-requires-4 Inv-loop μ-loop
+step-lengths-requires-4 c κs = search needs
+
+step-first-requires-4 : tie.Need-step-first-requires-4 Inv-loop μ-loop
+step-first-requires-4 c κs = search needs
+
+step-sounds-requires-3 : tie.Need-step-sounds-requires-3 Inv-loop μ-loop
+step-sounds-requires-3 c κs = (omega (arith, c .before .before .before .before .before .before .before .before .before .loop .inv .pitches, c .before .before .before .before .before .before .before .before .loop-test .taken), omega (arith, c .before .before .before .before .before .before .before .before .before .loop .inv .signifiers, c .before .before .before .before .before .before .before .before .loop-test .taken))
+
+step-marks-requires : tie.Need-step-marks-requires Inv-loop μ-loop
+step-marks-requires c κs = omega (arith, c .before .before .before .before .before .before .before .before .before .before .loop .inv .articulations, c .before .before .before .before .before .before .before .before .before .loop-test .taken)
+
+add-i-2 : tie.Need-add-i-2 Inv-loop μ-loop
+add-i-2 c = omega (arith, c .before .before .before .before .before .before .before .before .before .before .loop-test .taken)
+
+loop-less-4 : tie.Need-loop-less-4 Inv-loop μ-loop
+loop-less-4 c = omega (arith, c .before .before .before .before .before .before .before .before .before .before .loop-test .taken)
+
+loop-again-4 : tie.Need-loop-again-4 Inv-loop μ-loop
+loop-again-4 c = scan-turn (c .before .before .before .before .before .before .before .before .before .before .before .loop .inv) (c .before .before .before .before .before .before .before .before .before .before .loop-test .taken) (next-mark _ _ (c .before .before .before .before .before .before .before .before .before .before .loop-test .taken) (c .before .before .before .before .before .before .before .before .is-digit .ensures) (c .before .before .before .before .before .before .before .if1 .left) (c .before .before .before .before .before .before .is-letter .ensures) (c .before .before .before .before .before .if2 .left) (c .before .before .before .before .if3 .left)) (c .before .before .before .step-lengths4 .ensures) (c .before .before .step-first4 .ensures) (c .before .step-sounds3 .ensures) (c .step-marks .ensures)
 
 collect-requires : tie.Need-collect-requires Inv-loop μ-loop
 collect-requires c κs = search needs
@@ -59,12 +135,37 @@ scan-token-spec =
     no-first-requires
     no-marks-requires
     loop-holds
-    next-item-requires
+    shared-slice-read-b
+    is-digit-requires
+    digits-end-requires
+    sub-kern-duration
+    part-kern-duration-start
+    part-kern-duration-end
+    kern-duration-requires
     step-lengths-requires
     step-first-requires
-    step-sounds-requires
-    step-marks-requires
     loop-less
     loop-again
+    is-letter-requires
+    letter-end-requires
+    sub-t24
+    step-lengths-requires-2
+    step-first-requires-2
+    step-sounds-requires
+    loop-less-2
+    loop-again-2
+    step-lengths-requires-3
+    step-first-requires-3
+    step-sounds-requires-2
+    add-i
+    loop-less-3
+    loop-again-3
+    step-lengths-requires-4
+    step-first-requires-4
+    step-sounds-requires-3
+    step-marks-requires
+    add-i-2
+    loop-less-4
+    loop-again-4
     collect-requires
     returns)

@@ -1,0 +1,3 @@
+-- Tokens of the usual shape.
+pub mod Plain
+pub mod Usual

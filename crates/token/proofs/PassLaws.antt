@@ -1,0 +1,59 @@
+-- The marks with a meaning as the bits of two numbers, and the signs by comparison.
+use mathlib.Core.Path.{_≡_, refl, sym, ap, _∙_}
+use Prim.Native.Nat.{ℕ, _+_, _-_, _/_, _%_, _^_, _≤_, _<_}
+use native.Mathlib.Nat.{sub-zero}
+use native.Mathlib.Omega.{arith}
+use mathlib.Core.Bool.{Bool, true, false, not}
+use lib.Bits.{bitAnd, and-mask}
+use lib.Dec.{T, eqb}
+use borrow.Author.Tests.{ne-eqb}
+use Rattle.slices.specs.Finite.{all, below}
+use Rattle.notation.specs.Search.{contains}
+use Rattle.token.specs.Token.{signs, known}
+
+agree : Bool → Bool → Bool
+agree true y = y
+agree false y = not y
+
+agreed : (x y : Bool) → T (agree x y) → x ≡ y
+unfolding agree
+agreed true true t = refl
+agreed true false t = absurd t
+agreed false true t = absurd t
+agreed false false t = refl
+
+-- the bits of a mask are the marks from `low` on
+right : ℕ → ℕ → ℕ → Bool
+right mask low k = agree (eqb (mask / 2 ^ k % 2) 1) (contains (low + k) known)
+
+bits-are : (mask low : ℕ) → T (all (right mask low) 64) → (b : ℕ) → low ≤ b → b < low + 64 → eqb (bitAnd (mask / 2 ^ (b - low)) 1) 1 ≡ contains b known
+unfolding right
+bits-are mask low t b l h =
+    let at : low + (b - low) ≡ b = omega arith in
+    rw (and-mask (mask / 2 ^ (b - low)) 1) (agreed _ _ (below (right mask low) 64 t (b - low) (omega arith)) ∙ ap (λ (x : ℕ). contains x known) at)
+
+pub low-marks : (b : ℕ) → b < 64 → eqb (bitAnd (576534969338298368 / 2 ^ b) 1) 1 ≡ contains b known
+unfolding right agree contains
+low-marks b h = rw (sub-zero b) at (bits-are 576534969338298368 0 tt b (omega arith) (omega arith))
+
+pub high-marks : (b : ℕ) → 64 ≤ b → b < 128 → eqb (bitAnd (4617878471808521216 / 2 ^ (b - 64)) 1) 1 ≡ contains b known
+unfolding right agree contains
+high-marks b l h = bits-are 4617878471808521216 64 tt b l (omega arith)
+
+-- no byte from 128 on is one
+other : ℕ → Bool
+other k = agree false (contains (128 + k) known)
+
+pub no-marks : (b : ℕ) → 128 ≤ b → b < 256 → false ≡ contains b known
+unfolding other agree contains
+no-marks b l h =
+    let at : 128 + (b - 128) ≡ b = omega arith in
+    agreed false _ (below other 128 tt (b - 128) (omega arith)) ∙ ap (λ (x : ℕ). contains x known) at
+
+-- ---- the signs
+pub is-sign : (b x : ℕ) → contains x signs ≡ true → b ≡ x → true ≡ contains b signs
+is-sign b x t e = sym (ap (λ (y : ℕ). contains y signs) e ∙ t)
+
+pub no-sign : (b : ℕ) → (b ≡ 35 → ⊥) → (b ≡ 45 → ⊥) → (b ≡ 110 → ⊥) → false ≡ contains b signs
+unfolding contains
+no-sign b p q r = rw (ne-eqb 35 b (λ e. p (sym e)), ne-eqb 45 b (λ e. q (sym e)), ne-eqb 110 b (λ e. r (sym e)))
