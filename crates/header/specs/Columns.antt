@@ -1,13 +1,18 @@
--- A header column outside kern, and the counts that its notice leaves alone.
+-- The header's table of active spines; a column outside kern, and the counts that its notice leaves alone.
 use mathlib.Core.Path.{_≡_}
-use Prim.Native.Nat.{ℕ}
-use mathlib.Core.List.{List}
+use Prim.Native.Nat.{ℕ, _≤_}
+use mathlib.Core.List.{List, map}
 use mathlib.Core.Bool.{cond}
-use lib.ListN.{length}
+use lib.ListN.{length, take}
 use Rattle.lines.specs.Tokens.{isKern}
+use Rattle.paths.specs.Text.{headerRow}
+use Rattle.spines.specs.Cells.{rowOf}
+use Rattle.spines.specs.Table.{cellsOf}
+use Rattle.spines.specs.declared.Active.{Active}
 use Rattle.sheet.specs.Record.{spanOf}
 use Rattle.reading.specs.State.{State, Result}
 use Rattle.reading.specs.Notices.{quiet, notify}
+use Rattle.reading.specs.Header.{freshParts}
 use Rattle.state.specs.declared.Tally.{Tally}
 
 -- "2 spine not kern", of the token of column j at an offset of the text
@@ -18,3 +23,10 @@ noticeOther k j at token st = cond (isKern token) (quiet st) (notify 2 k j (span
 pub record Same (t r : Tally) : Type 0 where
   pub spines : r .active ≡ t .active
   pub parts : r .parts ≡ t .parts
+
+-- of a header's tokens: the cells of the first n spines are the first row, and p the parts
+pub record HeaderTable (ts : List (List ℕ)) (spines : List Active) (n p : ℕ) : Type 0 where
+  pub columns : n ≡ length ts
+  pub few : p ≤ n
+  pub row : rowOf (take n (cellsOf spines)) ≡ headerRow (map isKern ts)
+  pub parts : p ≡ length (freshParts 0 (map isKern ts))

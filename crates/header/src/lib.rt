@@ -1,6 +1,7 @@
 // Reference records, and the header: the first row and its parts.
 use reference::Key;
 use sheet::Notice;
+use spines::Active;
 use state::Step;
 use state::Tally;
 ghost use mathlib.Core.Path.{_≡_};
@@ -12,13 +13,14 @@ ghost use Rattle.lines.specs.Tokens.{tokensOf, isKern, isExclusive};
 ghost use Rattle.paths.specs.Text.{headerFrom, headerRow};
 ghost use Rattle.repair.specs.Repair.{each};
 ghost use Rattle.spines.specs.Cells.{spineOf, rowOf};
+ghost use Rattle.spines.specs.Table.{cellOf, cellsOf};
 ghost use Rattle.reading.specs.State.{goes, freshPart};
 ghost use Rattle.reading.specs.Notices.{placed};
 ghost use Rattle.reading.specs.Header.{readReference, noticeOthers, freshParts, readHeader};
 ghost use Rattle.state.specs.Parts.{partOf, partsOf};
 ghost use Rattle.state.specs.View.{stateOf, landed, told, toldRow};
 ghost use Rattle.state.specs.declared.Step.the-variants.{Goes};
-ghost use Rattle.header.specs.Columns.{noticeOther, Same};
+ghost use Rattle.header.specs.Columns.{noticeOther, Same, HeaderTable};
 
 // A reference record: `!!!OTL`, `!!!COM` and `!!!LYR` set title, composer and lyricist; any other key gives notice 1.
 pub fn read_reference(line: &[u8], number: u32, offset: u32, tally: Tally, out: &mut [u8]) -> Tally
@@ -99,18 +101,76 @@ fn all_exclusive(line: &[u8]) -> bool
     true
 }
 
-// A column of the header: its cell, and how many parts there are then.
-struct Column(u16, usize);
+// A column of the header: its spine, and how many parts there are then.
+struct Column(Active, usize);
+
+// The header's table of active spines, and how many columns and parts it has.
+struct Table {
+    spines: [Active; 256],
+    columns: usize,
+    parts: usize,
+}
 
 // The column of a token behind p parts.
 fn column_of(token: &[u8], p: usize) -> Column
     requires { ⌜ p < 256 ⌝ }
-    ensures { λ r. ⌜ (spineOf (r .0) ∷ [] ≡ headerFrom p (isKern (now (token .entry)) ∷ [])) × (r .1 ≡ p + length (freshParts p (isKern (now (token .entry)) ∷ []))) ⌝ }
+    ensures { λ r. ⌜ (spineOf (cellOf (r .0)) ∷ [] ≡ headerFrom p (isKern (now (token .entry)) ∷ [])) × (r .1 ≡ p + length (freshParts p (isKern (now (token .entry)) ∷ []))) ⌝ }
 {
     if lines::is_kern(token) {
-        return Column((p as u16 + 1) * 8, p + 1);
+        let spine = Active {
+            kern: true,
+            part: p as u8,
+            voice: 0,
+        };
+        return Column(spine, p + 1);
     }
-    Column(0, p)
+    let spine = Active {
+        kern: false,
+        part: 0,
+        voice: 0,
+    };
+    Column(spine, p)
+}
+
+// The table of the header's tokens.
+fn table_of(line: &[u8]) -> Table
+    requires { ⌜ length (tokensOf (now line)) ≤ 256 ⌝ }
+    ensures { λ r. ⌜ HeaderTable (tokensOf (now (line .entry))) (r .spines) (r .columns) (r .parts) ⌝ }
+{
+    let mut spines = [Active {
+        kern: false,
+        part: 0,
+        voice: 0,
+    }; 256];
+    let mut columns = 0;
+    let mut parts = 0;
+    let mut from = 0;
+    while from <= line.len() {
+        let end = lines::token_end(line, from);
+        let column = column_of(&line[from..end], parts);
+        let spine = column.0;
+        spines[columns] = spine;
+        parts = column.1;
+        columns += 1;
+        from = end + 1;
+    }
+    Table {
+        spines,
+        columns,
+        parts,
+    }
+}
+
+// A row's cells, each looked up in the table.
+fn lay_row(table: [Active; 256], columns: usize, row: &mut [u16])
+    requires { ⌜ (length (now row) ≡ 512) × (columns ≤ 256) ⌝ }
+    ensures { λ _. ⌜ take columns (now (row .exit)) ≡ take columns (cellsOf table) ⌝ }
+{
+    let mut i = 0;
+    while i < columns {
+        row[i] = spines::cell_at(table, i);
+        i += 1;
+    }
 }
 
 // The first row, and how many parts it has.
@@ -118,18 +178,10 @@ fn fill_row(line: &[u8], row: &mut [u16]) -> usize
     requires { ⌜ (length (now row) ≡ 512) × (length (tokensOf (now line)) ≤ 256) ⌝ }
     ensures { λ r. ⌜ (rowOf (take (length (tokensOf (now (line .entry)))) (now (row .exit))) ≡ headerRow (map isKern (tokensOf (now (line .entry))))) × ((r ≡ length (freshParts 0 (map isKern (tokensOf (now (line .entry)))))) × (r ≤ 256)) ⌝ }
 {
-    let mut from = 0;
-    let mut i = 0;
-    let mut p = 0;
-    while from <= line.len() {
-        let end = lines::token_end(line, from);
-        let column = column_of(&line[from..end], p);
-        row[i] = column.0;
-        p = column.1;
-        i += 1;
-        from = end + 1;
-    }
-    p
+    let table = table_of(line);
+    let spines = table.spines;
+    lay_row(spines, table.columns, row);
+    table.parts
 }
 
 // Cells of 0.

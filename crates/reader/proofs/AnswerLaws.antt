@@ -82,7 +82,7 @@ measured text parts notes at out rest w = measured-at text (readText text) parts
 pub measured-long : {text : List ℕ} {parts notes at : ℕ} → Measured text parts notes at → 16 + at < 2 ^ 32
 measured-long m = omega (arith, m .size, m .bounds .long)
 
-sheet-long : (parts notes : ℕ) (rs : List Record) → length (sheetBytes parts notes rs) ≡ 16 + length (recordsBytes rs)
+pub sheet-long : (parts notes : ℕ) (rs : List Record) → length (sheetBytes parts notes rs) ≡ 16 + length (recordsBytes rs)
 unfolding sheetBytes
 sheet-long parts notes rs =
     length-append (headBytes (record { parts = parts; length = 16 + length (recordsBytes rs); notes = notes })) (recordsBytes rs)

@@ -11,7 +11,9 @@ use Rattle.slices.specs.Split.{pieces}
 use Rattle.slices.proofs.SplitLaws.{no-piece, all-pieces}
 use Rattle.lines.specs.Lines.{linesOf, withoutCRs, kindOf, pieceEnd}
 use Rattle.lines.specs.declared.Kind.{Kind}
+use Rattle.lines.specs.declared.Kind.the-variants.{Empty, Reference, Comment, Star, Bar, Data}
 use Rattle.lines.proofs.PieceLaws.{Piece, piece-at}
+use Rattle.place.specs.declared.Place.{Place}
 use Rattle.spines.specs.Cells.{rowOf, spineOf}
 use Rattle.reading.specs.State.{Part, State, Result, Step, refused as refused-step, goes, ends, start, empty}
 use Rattle.reading.specs.Records.{readLine, isRecord}
@@ -25,11 +27,12 @@ use Rattle.state.proofs.PartLaws.{parts-length}
 use Rattle.extent.proofs.StateLaws.{Held, Holds, Passes, widen}
 use Rattle.extent.proofs.RecordLaws.{line-holds}
 use Rattle.extent.proofs.TextLaws.{start-holds}
-use Rattle.extent.proofs.LineLaws.{without-short}
 use Rattle.records.specs.Here.{Here}
+use Rattle.records.proofs.RecordLaws.{empty-line, comment-line}
 use Rattle.steady.proofs.LineLaws.{Firmly, start-firm, line-firm, firm-steady}
 use Rattle.reader.specs.Told.{noTally}
-use Rattle.reader.specs.Landing.{Finished, refused, written, finishAt, lineAt, linesAt}
+use Rattle.reader.specs.Landing.{isPassed, Finished, refused, written, finishAt, lineAt, linesAt}
+use Rattle.lines.proofs.TrimLaws.{content-short}
 
 -- row, parts and buffer at the line that begins at `from`, behind so many lines
 pub record Reading (text out₀ row parts out : List ℕ) (from number : ℕ) (begun : Bool) (t : Tally) : Type 0 where
@@ -57,9 +60,13 @@ reading-first {text} {out} {row} {parts} h p = record {
   counted = omega arith;
 }
 
--- the line's ends
-pub inside-of : (text : List ℕ) {from e : ℕ} → from ≤ length text → e ≡ pieceEnd 10 text from → (from ≤ e) × (e ≤ length text)
-inside-of text {from} {e} on ends-at = let at : Piece 10 text from e = piece-at on ends-at in (at .low, at .high)
+-- the line's ends, by where the next one begins
+pub inside-of : (text : List ℕ) {from next : ℕ} → from ≤ length text → next ≡ pieceEnd 10 text from + 1 → (from ≤ next - 1) × (next - 1 ≤ length text)
+inside-of text {from} {next} on moved = let at : Piece 10 text from (next - 1) = piece-at on (omega arith) in (at .low, at .high)
+
+-- the next line is nearer to the end
+pub nearer : (text : List ℕ) {from next : ℕ} → from ≤ length text → next ≡ pieceEnd 10 text from + 1 → length text + 1 - next < length text + 1 - from
+nearer text {from} {next} on moved = let in-line = inside-of text on moved in omega (arith, in-line .0, in-line .1)
 
 -- a step that goes on
 goes-is : {st : State} {at : ℕ} {out : List ℕ} (s : Step) (old : List ℕ) (place : ℕ) → going st at out ≡ landed s old place → (r : Result) × (s ≡ goes r) × (r .state ≡ st)
@@ -82,6 +89,26 @@ unpaid h = record {
   parts-few = h .parts-few;
   closed = h .closed;
 }
+
+-- a line that does nothing leaves the counts and the buffer
+passed-told : (begun : Bool) (number offset : ℕ) (line out row parts : List ℕ) (t : Tally) (kind : Kind) → kind ≡ kindOf line → isPassed kind ≡ true
+    → toldRow (Goes t) row parts out ≡ landed (readLine begun number offset line (stateOf (take (t .active) row) parts t)) out (t .at)
+passed-told begun number offset line out row parts t Empty k p = empty-line begun (stopped 0 0 0) line out (take (t .active) row) parts t number offset k refl
+passed-told begun number offset line out row parts t Reference k p = absurd (let w : _≡_ {A = ℕ} 0 1 = cc in omega arith)
+passed-told begun number offset line out row parts t Comment k p = comment-line begun (stopped 0 0 0) line out (take (t .active) row) parts t number offset k refl
+passed-told begun number offset line out row parts t Star k p = absurd (let w : _≡_ {A = ℕ} 0 1 = cc in omega arith)
+passed-told begun number offset line out row parts t Bar k p = absurd (let w : _≡_ {A = ℕ} 0 1 = cc in omega arith)
+passed-told begun number offset line out row parts t Data k p = absurd (let w : _≡_ {A = ℕ} 0 1 = cc in omega arith)
+
+-- and is no record
+passed-begun : (begun : Bool) (kind : Kind) → isPassed kind ≡ true → begun ≡ (begun || isRecord kind)
+passed-begun true kind p = refl
+passed-begun false Empty p = refl
+passed-begun false Reference p = refl
+passed-begun false Comment p = refl
+passed-begun false Star p = absurd (let w : _≡_ {A = ℕ} 0 1 = cc in omega arith)
+passed-begun false Bar p = absurd (let w : _≡_ {A = ℕ} 0 1 = cc in omega arith)
+passed-begun false Data p = absurd (let w : _≡_ {A = ℕ} 0 1 = cc in omega arith)
 
 module _ {text out₀ row parts out : List ℕ} {from number : ℕ} {begun : Bool} {t : Tally}
     (inv : Reading text out₀ row parts out from number begun t) where
@@ -177,27 +204,34 @@ module _ {text out₀ row parts out : List ℕ} {from number : ℕ} {begun : Boo
             counted = omega (arith, inv .counted, at .low);
           }
 
-  -- the same of the code's own line and kind
-  module _ {e : ℕ} (on : from ≤ length text) (ends-at : e ≡ pieceEnd 10 text from) {here-line : List ℕ} {kind : Kind}
-      (is-line : here-line ≡ withoutCRs (take (e - from) (drop from text))) (is-kind : kind ≡ kindOf here-line) where
+  -- the same of the code's own place behind the line, of its line and kind
+  module _ {past : Place} (on : from ≤ length text) (moved : (past .at ≡ pieceEnd 10 text from + 1) × (past .line ≡ number + 1))
+      {here-line : List ℕ} {kind : Kind} (is-line : here-line ≡ withoutCRs (take (past .at - 1 - from) (drop from text))) (is-kind : kind ≡ kindOf here-line) where
+    ends-at : past .at - 1 ≡ pieceEnd 10 text from
+    ends-at = omega (arith, moved .0)
+
     line-short : from + length here-line ≤ length text
     line-short =
+        let e : ℕ = past .at - 1 in
         let at : Piece 10 text from e = piece-at on ends-at in
         let long : length (take (e - from) (drop from text)) ≡ e - from = length-take-le (e - from) (drop from text) (omega (arith, at .high, length-drop from text)) in
-        omega (arith, at .low, at .high, without-short (take (e - from) (drop from text)), ap length is-line)
+        omega (arith, at .low, at .high, content-short (take (e - from) (drop from text)), ap length is-line)
 
-    pub here : length row ≡ 512 → Here here-line row parts t (number + 1) from
+    pub here : length row ≡ 512 → Here here-line row parts t (past .line) from
     here row-long = record {
       under = record { ready = ready row-long; few = active-few row-long .0; row-long = row-long };
       short = omega (arith, line-short, inv .short);
-      numbered = omega (arith, inv .counted, inv .short, on);
+      numbered = omega (arith, inv .counted, inv .short, on, moved .1);
     }
 
     module _ (s : StepTold) (row' parts' out' : List ℕ)
-        (so : toldRow s row' parts' out' ≡ landed (readLine begun (number + 1) from here-line (stateOf (take (t .active) row) parts t)) out (t .at)) where
+        (so : toldRow s row' parts' out' ≡ landed (readLine begun (past .line) from here-line (stateOf (take (t .active) row) parts t)) out (t .at)) where
+      so-numbered : toldRow s row' parts' out' ≡ landed (readLine begun (number + 1) from here-line (stateOf (take (t .active) row) parts t)) out (t .at)
+      so-numbered = so ∙ ap (λ (k : ℕ). landed (readLine begun k from here-line (stateOf (take (t .active) row) parts t)) out (t .at)) (moved .1)
+
       so-here : toldRow s row' parts' out'
-          ≡ landed (readLine begun (number + 1) from (withoutCRs (take (e - from) (drop from text))) (stateOf (take (t .active) row) parts t)) out (t .at)
-      so-here = so ∙ ap (λ (l : List ℕ). landed (readLine begun (number + 1) from l (stateOf (take (t .active) row) parts t)) out (t .at)) is-line
+          ≡ landed (readLine begun (number + 1) from (withoutCRs (take (past .at - 1 - from) (drop from text))) (stateOf (take (t .active) row) parts t)) out (t .at)
+      so-here = so-numbered ∙ ap (λ (l : List ℕ). landed (readLine begun (number + 1) from l (stateOf (take (t .active) row) parts t)) out (t .at)) is-line
 
       pub refused-here : (n l f : ℕ) → s ≡ Refused n l f → refused n l f ≡ linesAt false 0 0 (linesOf text) start 0 out₀
       refused-here n l f is = reading-refused on ends-at s row' parts' out' so-here n l f is
@@ -210,7 +244,7 @@ module _ {text out₀ row parts out : List ℕ} {from number : ℕ} {begun : Boo
       ends-small u is p =
           let went : ending (stateOf (take (u .active) row') parts' u) (u .at) out'
           ≡ landed (readLine begun (number + 1) from here-line (stateOf (take (t .active) row) parts t)) out (t .at)
-          = ap (λ (x : StepTold). toldRow x row' parts' out') (sym is) ∙ so in
+          = ap (λ (x : StepTold). toldRow x row' parts' out') (sym is) ∙ so-numbered in
           let step = ends-is (readLine begun (number + 1) from here-line (stateOf (take (t .active) row) parts t)) out (t .at) went in
           let passes : Passes (0 + 5 * length here-line) 0 (ends (step .0))
           = subst (λ (x : Step). Passes (0 + 5 * length here-line) 0 x) (step .1)
@@ -219,11 +253,19 @@ module _ {text out₀ row parts out : List ℕ} {from number : ℕ} {begun : Boo
           (p, (omega (arith, held .parts-few, parts-length (u .parts) parts'), omega (arith, held .closed, held .notes-few)))
 
       pub goes-here : (u : Tally) → s ≡ Goes u → length out' ≡ length out → length parts' ≡ 8960 → {begun' : Bool} → begun' ≡ (begun || isRecord kind)
-          → Reading text out₀ row' parts' out' (e + 1) (number + 1) begun' u
+          → Reading text out₀ row' parts' out' (past .at) (past .line) begun' u
       goes-here u is lo p b =
-          subst (λ (x : Bool). Reading text out₀ row' parts' out' (e + 1) (number + 1) x u)
+          let next : past .at - 1 + 1 ≡ past .at = omega (arith, moved .0) in
+          subst (λ (x : Bool). Reading text out₀ row' parts' out' (past .at) (past .line) x u)
           (sym (b ∙ ap (λ (l : Kind). begun || isRecord l) (is-kind ∙ ap kindOf is-line)))
-          (reading-turn on ends-at s row' parts' out' so-here u is lo p)
+          (subst (λ (k : ℕ). Reading text out₀ row' parts' out' (past .at) k (begun || isRecord (kindOf (withoutCRs (take (past .at - 1 - from) (drop from text))))) u) (sym (moved .1))
+          (subst (λ (k : ℕ). Reading text out₀ row' parts' out' k (number + 1) (begun || isRecord (kindOf (withoutCRs (take (past .at - 1 - from) (drop from text))))) u) next
+          (reading-turn on ends-at s row' parts' out' so-here u is lo p)))
+
+    -- a line that does nothing
+    pub passed-here : isPassed kind ≡ true → Reading text out₀ row parts out (past .at) (past .line) begun t
+    passed-here p =
+        goes-here (Goes t) row parts out (passed-told begun (past .line) from here-line out row parts t kind is-kind p) t refl refl (inv .parts-long) (passed-begun begun kind p)
 
   pub at-end : (length parts ≡ 8960) × ((t .parts ≤ 256) × (t .bars ≤ 100000))
   at-end = (inv .parts-long, (omega (arith, steady .parts-few, parts-length (t .parts) parts), steady .bars-few))

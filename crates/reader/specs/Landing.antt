@@ -5,12 +5,23 @@ use mathlib.Core.List.{List, [], _∷_, _++_}
 use lib.Dec.{eqb}
 use lib.ListN.{length}
 use Rattle.lines.specs.Lines.{withoutCRs, kindOf}
+use Rattle.lines.specs.declared.Kind.{Kind}
+use Rattle.lines.specs.declared.Kind.the-variants.{Empty, Reference, Comment, Star, Bar, Data}
 use Rattle.sheet.specs.Record.{Record}
 use Rattle.reading.specs.State.{State, Result}
 use Rattle.reading.specs.Records.{readLine, isRecord}
 use Rattle.reading.specs.Text.{Answer, refusal, accepted, lastClosing, lastRecords}
 use Rattle.state.specs.Lay.{laid, behind}
 use Rattle.state.specs.View.{Landed, stopped, going, ending, landed}
+
+-- "empty lines count but do nothing"; "Other `!` lines are dropped."
+abbrev pub isPassed : Kind → Bool
+isPassed Empty = true
+isPassed Reference = false
+isPassed Comment = true
+isPassed Star = false
+isPassed Bar = false
+isPassed Data = false
 
 -- a refusal; or the parts, the notes, the place behind the records, and the buffer
 pub data Finished : Type 0 where

@@ -1,4 +1,5 @@
 // Reads a text of Humdrum **kern into a sheet in a lent buffer: once to measure, and once to write.
+use lines::Kind;
 use sheet::Head;
 use sheet::Span;
 use state::Step;
@@ -16,7 +17,7 @@ ghost use Rattle.state.specs.View.{stateOf};
 ghost use Rattle.account.specs.Reached.{Question-8};
 ghost use Rattle.demand.specs.Played.{Played};
 ghost use Rattle.reader.specs.Answer.{numbersOf};
-ghost use Rattle.reader.specs.Landing.{finishAt, linesAt};
+ghost use Rattle.reader.specs.Landing.{isPassed, finishAt, linesAt};
 ghost use Rattle.reader.specs.Told.{finishedBy, Tells, noTally};
 ghost use Rattle.reader.specs.Measured.{Measured};
 ghost use Rattle.reader.specs.declared.Answer.the-variants.{Refused, Accepted};
@@ -102,6 +103,20 @@ fn line_of(text: &[u8], from: usize, end: usize) -> &[u8]
     &line[..long]
 }
 
+// Whether a line of some kind does nothing: an empty line, and a `!` line that is no reference.
+fn is_passed(kind: Kind) -> bool
+    ensures { λ r. ⌜ r ≡ isPassed kind ⌝ }
+{
+    match kind {
+        Kind::Empty => true,
+        Kind::Reference => false,
+        Kind::Comment => true,
+        Kind::Star => false,
+        Kind::Bar => false,
+        Kind::Data => false,
+    }
+}
+
 // How many cells an array has for the row.
 fn room(row: &[u16]) -> usize
     ensures { λ r. ⌜ r ≡ length (now (row .entry)) ⌝ }
@@ -126,10 +141,15 @@ fn read_lines(
     let mut number: u32 = 0;
     let mut from = 0;
     while from <= text.len() {
-        let end = lines::line_end(text, from);
+        let past = place::past_line(text, from, number);
+        let end = past.at - 1;
         let line = line_of(text, from, end);
         let kind = lines::line_kind(line);
-        number += 1;
+        number = past.line;
+        if is_passed(kind) {
+            from = past.at;
+            continue;
+        }
         room(row);
         match records::read_line(
             begun,
@@ -163,7 +183,7 @@ fn read_lines(
             }
         }
         begun = records::begun_after(begun, kind);
-        from = end + 1;
+        from = past.at;
     }
     finish_text(begun, parts, tally, out)
 }

@@ -5,7 +5,7 @@ use native.Mathlib.Omega.{arith}
 use mathlib.Core.List.{List, [], _∷_, _++_, map, headD}
 use mathlib.Core.Bool.{Bool, true, false, cond}
 use lib.Dec.{eqb, ltb}
-use lib.ListN.{length, getD, take, drop}
+use lib.ListN.{length, getD, take, drop, length-map}
 use lib.Seq.{take-suc, drop-cons, getD-drop}
 use native.Mathlib.Numerals.{add-one}
 use borrow.Author.Tests.{eq-eqb, ne-eqb, lt-ltb, le-ltb, eqb-false, ltb-true, ltb-false}
@@ -109,3 +109,8 @@ branch-test c h = go (ltb 3 (c % 8)) refl
     go : (b : Bool) → ltb 3 (c % 8) ≡ b → b ≡ isBranch (spineOf c)
     go true e = let v : 4 ≤ c % 8 = omega (arith, ltb-true 3 (c % 8) e) in sym (rw (cell-branch c (c / 8 - 1) part v))
     go false e = let v : c % 8 < 4 = omega (arith, ltb-false 3 (c % 8) e) in sym (rw (cell-line c (c / 8 - 1) part v))
+
+-- as many spines as cells
+pub row-length : (cells : List ℕ) → length (rowOf cells) ≡ length cells
+unfolding rowOf
+row-length cells = length-map cells spineOf

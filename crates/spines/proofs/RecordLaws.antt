@@ -49,7 +49,7 @@ path-fill (suc n) (s ∷ ts) t h e =
     let z : suc n - suc (length ts) ≡ n - length ts = omega arith in
     rw z (ap (λ (l : List PathToken). pathToken s ∷ l) (path-fill n ts t (omega arith) e))
 
-star-other : pathToken (ascii "*") ≡ Other
+pub star-other : pathToken (ascii "*") ≡ Other
 unfolding pathToken sameBytes
 star-other = refl
 

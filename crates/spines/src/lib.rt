@@ -1,11 +1,12 @@
-// The row of spines, and its next row by the path tokens of a record.
+// The row of spines, its next row by the path tokens of a record, and the table of active spines.
 use paths::PathToken;
 ghost use mathlib.Core.Path.{_≡_};
-ghost use Prim.Native.Nat.{min, _*_, _≤_};
+ghost use Prim.Native.Nat.{min, _*_, _≤_, _<_};
 ghost use lib.ListN.{length, getD, take};
 ghost use Rattle.paths.specs.Token.{isExchange};
 ghost use Rattle.paths.specs.Row.{nextRow};
 ghost use Rattle.spines.specs.Cells.{rowOf};
+ghost use Rattle.spines.specs.Table.{activeAt, cellOf};
 ghost use Rattle.spines.specs.Tokens.{recordTokens, Ahead};
 ghost use Rattle.spines.specs.Emit.{modeOf, behindJoin, Emitted};
 
@@ -142,4 +143,39 @@ pub fn next_row(line: &[u8], row: &[u16; 512], active: usize, next: &mut [u16; 5
     ensures { λ r. ⌜ (rowOf (take r (now (next .exit))) ≡ nextRow (recordTokens (min active 256) (now (line .entry))) (rowOf (take (min active 256) (now (row .entry))))) × (r ≤ 512) ⌝ }
 {
     next_row_of(line, row, active, next)
+}
+
+// An active spine: whether it is kern, and then its part and its voice.
+pub struct Active {
+    pub kern: bool,
+    pub part: u8,
+    pub voice: u8,
+}
+
+// The table of active spines, a lent slice of structs, looked up by column.
+pub fn lookup(spines: &[Active], column: usize) -> Active
+    requires { ⌜ column < length (now spines) ⌝ }
+    ensures { λ r. ⌜ r ≡ activeAt (now (spines .entry)) column ⌝ }
+{
+    spines[column]
+}
+
+// The same of a table by value: who calls it lends no structs.
+pub fn active_at(table: [Active; 256], column: usize) -> Active
+    requires { ⌜ column < 256 ⌝ }
+    ensures { λ r. ⌜ r ≡ activeAt table column ⌝ }
+{
+    lookup(&table, column)
+}
+
+// The cell of the spine of a column.
+pub fn cell_at(table: [Active; 256], column: usize) -> u16
+    requires { ⌜ column < 256 ⌝ }
+    ensures { λ r. ⌜ r ≡ cellOf (activeAt table column) ⌝ }
+{
+    let spine = active_at(table, column);
+    if spine.kern {
+        return (spine.part as u16 + 1) * 8 + spine.voice as u16;
+    }
+    0
 }

@@ -35,6 +35,7 @@ use Rattle.state.specs.View.{Landed, stopped, going, ending, stateOf, landed, t
 use Rattle.state.proofs.LayLaws.{laid-append, behind-append}
 use Rattle.stars.specs.Columns.{filled, tokenOf, columnsOf, Held, Comes, Fit}
 use Rattle.stars.proofs.PairLaws.{tokens-at, right-all, left-first, left-next}
+use Rattle.spines.proofs.RecordLaws.{star-other}
 
 -- ---- a record's tokens, filled
 
@@ -54,10 +55,6 @@ unfolding filled
 fill-cons n t ts =
     let z : suc n - suc (length ts) ≡ n - length ts = omega arith in
     ap (λ (k : ℕ). t ∷ (take n ts ++ replicate k (ascii "*"))) z
-
-star-other : pathToken (ascii "*") ≡ Other
-unfolding pathToken sameBytes
-star-other = refl
 
 -- the code reads the tokens of the line as it stands
 pub path-filled : (n : ℕ) (ts : List (List ℕ)) → map pathToken (filled n ts) ≡ pathTokens n ts

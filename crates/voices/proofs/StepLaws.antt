@@ -14,6 +14,7 @@ use Rattle.spines.specs.Cells.{spineOf, rowOf}
 use Rattle.voices.specs.Outcome.{givenOf}
 use Rattle.voices.specs.declared.Given.{Given}
 use Rattle.voices.specs.declared.Given.the-variants.{All, Without}
+use Rattle.spines.proofs.CellLaws.{row-length}
 
 pub record Copying (row₀ row cells : List ℕ) (i : ℕ) : Type 0 where
   pub high : i ≤ length cells
@@ -37,10 +38,6 @@ module _ {row₀ row cells : List ℕ} {i : ℕ} (inv : Copying row₀ row cells
   copying-past h =
       let e : i ≡ length cells = omega (arith, inv .high) in
       ap (λ (k : ℕ). take k row) (sym e) ∙ inv .same ∙ take-all i cells h
-
-row-length : (cells : List ℕ) → length (rowOf cells) ≡ length cells
-unfolding rowOf
-row-length cells = length-map cells spineOf
 
 module _ (cells row : List ℕ) where
   pub too-wide : 256 < length cells → wide (length cells) ≡ narrow (next (rowOf cells))

@@ -3,9 +3,10 @@ use borrow.Author.Needs.{needs}
 use native.Mathlib.Omega.{arith}
 use Prim.Native.Nat.{_+_, _-_}
 use lib.ListN.{length}
-use Rattle.header.proofs.ColumnLaws.{Asked, asked-first, asked-turn, asked-not, asked-past, end-low}
+use Rattle.header.proofs.ColumnLaws.{Asked, asked-first, asked-turn, asked-not, asked-past}
 use Rattle.header.proofs.all_exclusive.Statement.{statement}
 use Rattle.header.proofs.all_exclusive.Tie as tie
+use Rattle.lines.proofs.PieceLaws.{end-low}
 
 abbrev Inv-loop : tie.InvT-loop
 Inv-loop line from₀ from = Asked line from

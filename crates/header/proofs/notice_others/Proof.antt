@@ -4,9 +4,9 @@ use lib.ListN.{length}
 use Prim.Native.Nat.{_+_, _-_}
 use native.Mathlib.Omega.{arith}
 use Rattle.header.proofs.NoticeLaws.{Noticing, noticing-first, noticing-room, token-short, noticing-turn, noticing-past}
-use Rattle.header.proofs.ColumnLaws.{end-low}
 use Rattle.header.proofs.notice_others.Statement.{statement}
 use Rattle.header.proofs.notice_others.Tie as tie
+use Rattle.lines.proofs.PieceLaws.{end-low}
 
 abbrev Inv-loop : tie.InvT-loop
 Inv-loop line number offset out₀ t₀ from₀ column₀ out t from column = Noticing line number offset t₀ out₀ t out from column
