@@ -72,6 +72,12 @@ pub fn picked() -> Vec<Vec<u8>> {
     texts
 }
 
+/// Texts that are too long for the list, as a beginning and a piece that comes so many times behind it: 100,000 notes, and one record more.
+pub fn long() -> Vec<(Vec<u8>, Vec<u8>, usize)> {
+    let (header, row) = (format!("{}\n", joined("**kern", 250)).into_bytes(), format!("{}\n", joined("1c", 250)).into_bytes());
+    vec![(header.clone(), row.clone(), 400), (header, row, 401)]
+}
+
 /// A text as the program takes it: behind its length and a LF.
 fn request(text: &[u8]) -> Vec<u8> {
     [format!("{}\n", text.len()).as_bytes(), text].concat()
@@ -161,6 +167,12 @@ pub fn list() -> (Vec<u8>, Vec<u8>) {
         assert!(check::agree(text), "the encoder and the source differ on {}", String::from_utf8_lossy(text));
         input.extend(request(text));
         output.extend(answer(text));
+    }
+    for (once, unit, times) in long() {
+        let text = [once.clone(), unit.repeat(times)].concat();
+        assert!(check::agree(&text), "the encoder and the source differ on a long text");
+        input.extend([format!("{} {} {times}\n", once.len(), unit.len()).as_bytes(), &once, &unit].concat());
+        output.extend(answer(&text));
     }
     (input, output)
 }

@@ -16,7 +16,7 @@ use Rattle.lines.proofs.PieceLaws.{Piece, piece-at}
 use Rattle.paths.specs.Row.{Spine, line, branch}
 use Rattle.repair.specs.Repair.{firstOf}
 use Rattle.spines.specs.Cells.{spineOf, rowOf}
-use Rattle.spines.proofs.CellLaws.{cell-outside, row-drop, row-none}
+use Rattle.spines.proofs.CellLaws.{cell-outside, row-drop, row-none, row-length}
 use Rattle.reading.specs.Notices.{placed}
 use Rattle.reading.specs.Bars.{isKernSpine, deciding, decidingOr}
 use Rattle.bars.specs.Bars.{filledBars, decidingIn, decidingOf}
@@ -56,10 +56,6 @@ deciding-filled at [] t ts = ap (λ (k : ℕ). deciding [] (placed at (replicate
     none k = omega arith
 deciding-filled at (s ∷ row) t ts = placed-in t at (s ∷ row) (take (suc (length row)) (t ∷ ts) ++ replicate (suc (length row) - suc (length ts)) t)
     ∙ some-filled t (s ∷ row) (t ∷ ts) (suc (length row) - suc (length ts))
-
-pub row-length : (cells : List ℕ) → length (rowOf cells) ≡ length cells
-unfolding rowOf
-row-length cells = length-map cells spineOf
 
 -- a line has a token
 pub deciding-line : (at : ℕ) (cells s : List ℕ)
@@ -159,6 +155,3 @@ module _ {s cells : List ℕ} {first from i : ℕ} (d : Deciding s cells first f
     begins = d .begins;
     here = deciding-here h g e ∙ rw (kern-low (getD cells i 0) k);
   }
-
-pub end-low : (s : List ℕ) (from e : ℕ) → from ≤ length s → e ≡ pieceEnd 9 s from → (from ≤ e) × (e ≤ length s)
-end-low s from e h at = let p : Piece 9 s from e = piece-at h at in (p .low, p .high)

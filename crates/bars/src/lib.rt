@@ -65,13 +65,13 @@ fn current(cells: &[u32]) -> Bar
 }
 
 // A bar as it closes: bar 1 is filled in.
-fn closed(bar: Bar, right: u8, number: u32) -> Bar
-    ensures { λ r. ⌜ r ≡ closedBar right number bar ⌝ }
+fn closed(bar: Bar, right: u8, nth: u32) -> Bar
+    ensures { λ r. ⌜ r ≡ closedBar right nth bar ⌝ }
 {
     let mut numerator = bar.numerator;
     let mut denominator = bar.denominator;
     let mut key = bar.key;
-    if number == 1 {
+    if nth == 1 {
         if numerator == 0 {
             numerator = 4;
             denominator = 4;
@@ -82,7 +82,7 @@ fn closed(bar: Bar, right: u8, number: u32) -> Bar
         part: bar.part,
         right,
         left: bar.left,
-        number,
+        number: nth,
         clef: bar.clef,
         numerator,
         denominator,

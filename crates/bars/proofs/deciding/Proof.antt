@@ -3,9 +3,10 @@ use Prim.Native.Nat.{_-_}
 use native.Mathlib.Omega.{arith}
 use lib.ListN.{length}
 use borrow.Author.Needs.{needs}
-use Rattle.bars.proofs.DecidingLaws.{Deciding, deciding-first, deciding-empty, line-past, row-past, deciding-found, deciding-turn, end-low}
+use Rattle.bars.proofs.DecidingLaws.{Deciding, deciding-first, deciding-empty, line-past, row-past, deciding-found, deciding-turn}
 use Rattle.bars.proofs.deciding.Statement.{statement}
 use Rattle.bars.proofs.deciding.Tie as tie
+use Rattle.lines.proofs.PieceLaws.{end-low}
 
 abbrev Inv-loop : tie.InvT-loop
 Inv-loop line row first from₀ i₀ from i = Deciding line row first from i

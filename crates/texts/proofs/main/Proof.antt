@@ -1,6 +1,6 @@
-use borrow.Author.Needs.{needs}
 use Prim.Native.Nat.{_+_, _-_, _≤_}
 use lib.ListN.{length}
+use borrow.Author.Needs.{needs}
 use Rattle.texts.proofs.main.Statement.{statement}
 use Rattle.texts.proofs.main.Tie as tie
 use Rattle.texts.proofs.main.Reads as reads
@@ -8,100 +8,111 @@ use Rattle.texts.proofs.main.Lts as lts
 use Rattle.io.proofs.read_full.Reads as read-full-reads
 use Rattle.slices.proofs.find.Reads as find-reads
 use Rattle.slices.proofs.piece.Reads as piece-reads
-use Rattle.texts.proofs.answer.Reads as answer-reads
+use Rattle.texts.proofs.answer_repeated.Reads as answer-repeated-reads
 use Rattle.texts.proofs.number_of.Reads as number-of-reads
 
 abbrev Inv-loop : tie.InvT-loop
-Inv-loop n texts from₀ from = from ≤ length texts + 200000
+Inv-loop n texts from₀ from = from ≤ length texts + 400000
 
 abbrev μ-loop : tie.MeasureT-loop
-μ-loop n texts from₀ from = length texts + 200000 - from
+μ-loop n texts from₀ from = length texts + 400000 - from
 
--- src/main.rt:50:30
 slice-aggregate-read-full : tie.Need-slice-aggregate-read-full Inv-loop μ-loop
 slice-aggregate-read-full c = search needs
 
--- src/main.rt:50:9
 read-full-requires : tie.Need-read-full-requires Inv-loop μ-loop
 read-full-requires c κs = search needs
 
--- src/main.rt:51:31
 slice-aggregate-piece : tie.Need-slice-aggregate-piece Inv-loop μ-loop
 slice-aggregate-piece c = search needs
 
--- src/main.rt:51:9
 piece-requires : tie.Need-piece-requires Inv-loop μ-loop
 piece-requires c κs = search needs
 
--- src/main.rt:53:5
 loop-holds : tie.Need-loop-holds Inv-loop μ-loop
 loop-holds c = search needs
 
--- src/main.rt:54:39
 sub-find : tie.Need-sub-find Inv-loop μ-loop
 sub-find c = search needs
 
--- src/main.rt:54:39
 part-find-start : tie.Need-part-find-start Inv-loop μ-loop
 part-find-start c = search needs
 
--- src/main.rt:54:39
 part-find-end : tie.Need-part-find-end Inv-loop μ-loop
 part-find-end c = search needs
 
--- src/main.rt:54:26
 find-requires : tie.Need-find-requires Inv-loop μ-loop
 find-requires c κs = search needs
 
--- src/main.rt:54:19
 add-end : tie.Need-add-end Inv-loop μ-loop
 add-end c = search needs
 
--- src/main.rt:55:30
-sub-number-of : tie.Need-sub-number-of Inv-loop μ-loop
-sub-number-of c = search needs
+sub-line : tie.Need-sub-line Inv-loop μ-loop
+sub-line c = search needs
 
--- src/main.rt:55:30
-part-number-of-start : tie.Need-part-number-of-start Inv-loop μ-loop
-part-number-of-start c = search needs
+part-line-start : tie.Need-part-line-start Inv-loop μ-loop
+part-line-start c = search needs
 
--- src/main.rt:55:30
-part-number-of-end : tie.Need-part-number-of-end Inv-loop μ-loop
-part-number-of-end c = search needs
+part-line-end : tie.Need-part-line-end Inv-loop μ-loop
+part-line-end c = search needs
 
--- src/main.rt:55:13
-number-of-requires : tie.Need-number-of-requires Inv-loop μ-loop
-number-of-requires c κs = search needs
+find-requires-2 : tie.Need-find-requires-2 Inv-loop μ-loop
+find-requires-2 c κs = search needs
 
--- src/main.rt:56:37
 add-piece : tie.Need-add-piece Inv-loop μ-loop
 add-piece c = search needs
 
--- src/main.rt:56:16
 piece-requires-2 : tie.Need-piece-requires-2 Inv-loop μ-loop
 piece-requires-2 c κs = search needs
 
--- src/main.rt:56:9
-answer-requires : tie.Need-answer-requires Inv-loop μ-loop
-answer-requires c κs = search needs
+find-requires-3 : tie.Need-find-requires-3 Inv-loop μ-loop
+find-requires-3 c κs = search needs
 
--- src/main.rt:57:16
+piece-requires-3 : tie.Need-piece-requires-3 Inv-loop μ-loop
+piece-requires-3 c κs = search needs
+
+number-of-requires : tie.Need-number-of-requires Inv-loop μ-loop
+number-of-requires c κs = search needs
+
+piece-requires-4 : tie.Need-piece-requires-4 Inv-loop μ-loop
+piece-requires-4 c κs = search needs
+
+number-of-requires-2 : tie.Need-number-of-requires-2 Inv-loop μ-loop
+number-of-requires-2 c κs = search needs
+
+add-piece-2 : tie.Need-add-piece-2 Inv-loop μ-loop
+add-piece-2 c = search needs
+
+piece-requires-5 : tie.Need-piece-requires-5 Inv-loop μ-loop
+piece-requires-5 c κs = search needs
+
+number-of-requires-3 : tie.Need-number-of-requires-3 Inv-loop μ-loop
+number-of-requires-3 c κs = search needs
+
+add-start : tie.Need-add-start Inv-loop μ-loop
+add-start c = search needs
+
+add-next : tie.Need-add-next Inv-loop μ-loop
+add-next c = search needs
+
 add-from : tie.Need-add-from Inv-loop μ-loop
 add-from c = search needs
 
--- src/main.rt:57:16
-add-from-2 : tie.Need-add-from-2 Inv-loop μ-loop
-add-from-2 c = search needs
+piece-requires-6 : tie.Need-piece-requires-6 Inv-loop μ-loop
+piece-requires-6 c κs = search needs
 
--- src/main.rt:53:5
+piece-requires-7 : tie.Need-piece-requires-7 Inv-loop μ-loop
+piece-requires-7 c κs = search needs
+
+answer-repeated-requires : tie.Need-answer-repeated-requires Inv-loop μ-loop
+answer-repeated-requires c κs = search needs
+
 loop-less : tie.Need-loop-less Inv-loop μ-loop
 loop-less c = search needs
 
--- src/main.rt:53:5
 loop-again : tie.Need-loop-again Inv-loop μ-loop
 loop-again c = search needs
 
--- src/main.rt:48:1
 returns : tie.Need-returns Inv-loop μ-loop
 returns c = search needs
 
@@ -121,15 +132,26 @@ main-spec =
     part-find-end
     find-requires
     add-end
-    sub-number-of
-    part-number-of-start
-    part-number-of-end
-    number-of-requires
+    sub-line
+    part-line-start
+    part-line-end
+    find-requires-2
     add-piece
     piece-requires-2
-    answer-requires
+    find-requires-3
+    piece-requires-3
+    number-of-requires
+    piece-requires-4
+    number-of-requires-2
+    add-piece-2
+    piece-requires-5
+    number-of-requires-3
+    add-start
+    add-next
     add-from
-    add-from-2
+    piece-requires-6
+    piece-requires-7
+    answer-repeated-requires
     loop-less
     loop-again
     returns)
