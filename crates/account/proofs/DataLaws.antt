@@ -24,6 +24,7 @@ use Rattle.reading.specs.Notes.{bit, flagsOf, sounded, noteRecord, addNote, beh
 use Rattle.account.specs.Account.{Item, inferredOf, itemOf, itemIn, itemsFrom}
 use Rattle.account.specs.Agree.{playedLength, both-end, one-more}
 use Rattle.account.proofs.ResultLaws.{Adds, quiet-adds, then-adds, notify-adds, signifiers-adds, or-true}
+use Rattle.slices.proofs.CompareLaws.{and-left, and-right}
 
 -- ---- the grace bit of the flags
 
@@ -32,16 +33,8 @@ abbrev both : (Bool → Bool) → Bool
 both f = f true && f false
 
 both-at : (f : Bool → Bool) → both f ≡ true → (b : Bool) → f b ≡ true
-both-at f e true = left (f true) (f false) e
-  where
-    left : (x y : Bool) → (x && y) ≡ true → x ≡ true
-    left true y e = refl
-    left false y e = e
-both-at f e false = right (f true) (f false) e
-  where
-    right : (x y : Bool) → (x && y) ≡ true → y ≡ true
-    right true y e = e
-    right false y e = cc
+both-at f e true = and-left (f true) (f false) e
+both-at f e false = and-right (f true) (f false) e
 
 beq-same : (x y : Bool) → Bool·beq x y ≡ true → x ≡ y
 beq-same true true e = refl

@@ -28,6 +28,7 @@ use Rattle.account.specs.Account.{Item}
 use Rattle.account.specs.Agree.{Agree}
 use Rattle.account.proofs.ResultLaws.{Adds, quiet-adds, reference-adds, others-add, or-false}
 use Rattle.account.proofs.RecordLaws.{Stands, rest, Went, went, went-last}
+use Rattle.reading.proofs.StateLaws.{fresh-noted}
 
 -- ---- the records among lines
 
@@ -163,12 +164,6 @@ module _ (h : List Bool) (recs : ℕ → Rec) where
             absurd (let z : _≡_ {A = ℕ} 0 1 = cc in omega arith)
 
 -- ---- the header
-
-fresh-noted : (p : ℕ) (ks : List Bool) → anyNoted (freshParts p ks) ≡ false
-unfolding anyNoted freshParts
-fresh-noted p [] = refl
-fresh-noted p (true ∷ ks) = fresh-noted (suc p) ks
-fresh-noted p (false ∷ ks) = fresh-noted p ks
 
 -- what the records say of paths, the first of them the header
 abbrev pub pathsIn : List Numbered → ℕ → Rec

@@ -36,14 +36,10 @@ use Rattle.account.specs.Account.{Item, closingsAfter, notedAfter, items
 use Rattle.account.specs.Agree.{Agree, both-end}
 use Rattle.account.proofs.ResultLaws.{Adds, agree-notes, or-false, notify-adds, repair-adds, columns-add}
 use Rattle.account.proofs.DataLaws.{StepAdds, Columns, tokens-add}
-use Rattle.account.proofs.RowLaws.{Follows, follows-first, follows-next, reads-on, row-columns, kern-columns, placed-bytes}
+use Rattle.account.proofs.RowLaws.{Follows, follows-first, follows-next, reads-on, row-columns, kern-columns}
+use Rattle.reading.proofs.StateLaws.{placed-bytes, closed-noted}
 
 -- ---- barlines
-
-closed-noted : (right left number : ℕ) (ps : List Part) → anyNoted (map (closedPart right left number) ps) ≡ false
-unfolding anyNoted
-closed-noted right left number [] = refl
-closed-noted right left number (p ∷ ps) = closed-noted right left number ps
 
 left-noted : (left : ℕ) (ps : List Part) → anyNoted (map (leftAnew left) ps) ≡ anyNoted ps
 unfolding anyNoted

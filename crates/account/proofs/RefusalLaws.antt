@@ -30,7 +30,7 @@ use Rattle.reading.specs.Notes.{addNote, behind, byOutcome, signify, inferredFo
 use Rattle.reading.specs.Records.{noticeRepair, byKind, byRepair, onRow, onRecord, byLine, readLine}
 use Rattle.account.proofs.ResultLaws.{repair-adds}
 use Rattle.account.proofs.RecordLaws.{paths}
-use Rattle.account.proofs.RowLaws.{placed-bytes}
+use Rattle.reading.proofs.StateLaws.{placed-bytes}
 use Rattle.account.proofs.LineLaws.{record-line}
 
 -- a star record behind the header, stopped by a branch of part f that finds no voice

@@ -31,6 +31,7 @@ use Rattle.reading.specs.Star.{applied, interpret, columnBy, paired, readColumn
 use Rattle.reading.specs.Records.{noticeRepair}
 use Rattle.account.specs.Account.{Item, anyItem}
 use Rattle.account.specs.Agree.{Agree, both-end, one-more}
+use Rattle.reading.proofs.StateLaws.{set-noted}
 
 -- ---- lists that agree
 
@@ -140,12 +141,6 @@ reference-adds k at bytes st = go (referenceOf (drop 3 bytes) .key) _ _
     go OtherKey value shown = keep-adds _ [] st
 
 -- ---- star records: what the columns add is nothing
-
-set-noted : (ps : List Part) (p : ℕ) (x d : Part) → x .noted ≡ getD ps p d .noted → anyNoted (set ps p x) ≡ anyNoted ps
-unfolding anyNoted
-set-noted [] p x d e = refl
-set-noted (q ∷ ps) zero x d e = ap (λ (b : Bool). b || anyNoted ps) e
-set-noted (q ∷ ps) (suc p) x d e = ap (λ (b : Bool). q .noted || b) (set-noted ps p x d e)
 
 module _ (st : State) (p : ℕ) where
   -- a part set anew, whether it has a note left as it was

@@ -155,8 +155,3 @@ kern-columns f m i (branch p ∷ row) (c, cs) = absurd c
 kern-columns f m i (outside ∷ row) (e, cs) = rw e (ap (λ (ks : List Bool). false ∷ ks) (kern-columns f m (suc i) row cs))
 
 -- ---- the tokens of a line, with their places and without
-
-pub placed-bytes : (at : ℕ) (ts : List (List ℕ)) → map (λ (t : Token). t .bytes) (placed at ts) ≡ ts
-unfolding placed
-placed-bytes at [] = refl
-placed-bytes at (t ∷ ts) = ap (λ (l : List (List ℕ)). t ∷ l) (placed-bytes (at + length t + 1) ts)

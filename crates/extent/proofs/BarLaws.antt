@@ -13,17 +13,13 @@ use Rattle.reading.specs.State.{Part, State, withParts}
 use Rattle.reading.specs.Notices.{Token, quiet}
 use Rattle.reading.specs.Bars.{anyNoted, closedBar, closedPart, closing, leftAnew, keepLeft, deciding, closeWith, readBar}
 use Rattle.extent.proofs.StateLaws.{Holds, After, quiet-holds, noted-map, parts-hold}
+use Rattle.reading.proofs.StateLaws.{closed-noted}
 
 -- a record of 20 bytes for each part
 pub bytes-parts : (f : Part → Record) → ((p : Part) → length (recordBytes (f p)) ≡ 20) → (ps : List Part) → length (recordsBytes (map f ps)) ≡ 20 * length ps
 unfolding recordsBytes
 bytes-parts f e [] = refl
 bytes-parts f e (p ∷ ps) = omega (arith, length-append (recordBytes (f p)) (recordsBytes (map f ps)), e p, bytes-parts f e ps)
-
-closed-noted : (right left number : ℕ) (ps : List Part) → anyNoted (map (closedPart right left number) ps) ≡ false
-unfolding anyNoted
-closed-noted right left number [] = refl
-closed-noted right left number (p ∷ ps) = closed-noted right left number ps
 
 pub closing-holds : {b n : ℕ} (right left : ℕ) (st : State) → anyNoted (st .parts) ≡ true → Holds b n st → After b n (closing right left st)
 unfolding closing

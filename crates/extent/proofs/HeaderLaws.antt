@@ -19,6 +19,7 @@ use Rattle.reading.specs.Notices.{Token, placed, spanOfToken, after, notify}
 use Rattle.reading.specs.Bars.{anyNoted}
 use Rattle.reading.specs.Header.{byKey, keySpan, valueSpan, readReference, noticeOthers, freshParts, anyKern, readHeader}
 use Rattle.extent.proofs.StateLaws.{either, Holds, After, Passes, widen, quiet-holds, after-holds, keep-holds, notify-holds}
+use Rattle.reading.proofs.StateLaws.{fresh-noted}
 
 key-holds : {b n : ℕ} (x : Key) (k : ℕ) (value key : Span) (st : State) → Holds b n st → After b n (byKey x k value key st)
 key-holds Title k value key st h = quiet-holds st h
@@ -45,12 +46,6 @@ unfolding freshParts
 fresh-few p [] = omega arith
 fresh-few p (true ∷ ks) = omega (arith, fresh-few (suc p) ks)
 fresh-few p (false ∷ ks) = omega (arith, fresh-few p ks)
-
-fresh-noted : (p : ℕ) (ks : List Bool) → anyNoted (freshParts p ks) ≡ false
-unfolding freshParts anyNoted
-fresh-noted p [] = refl
-fresh-noted p (true ∷ ks) = fresh-noted (suc p) ks
-fresh-noted p (false ∷ ks) = fresh-noted p ks
 
 -- "Has the header at most 256 tokens?"
 pub header-holds : {b n : ℕ} (k at : ℕ) (line : List ℕ) (st : State) → Holds b n st → Passes b n (readHeader k at line st)

@@ -15,7 +15,7 @@ use Rattle.lines.specs.Tokens.{tokensOf, isStar, isEmpty}
 use Rattle.lines.specs.declared.Kind.the-variants.{Empty, Reference, Comment, Star, Bar, Data}
 use Rattle.repair.specs.Repair.{each, firstOf, isOrdinary, isBar, identicalBars, repairOf, repairBy, repaired}
 use Rattle.repair.specs.declared.Repair.the-variants.{Whole, Cut, Stars, Bars}
-use Rattle.repair.proofs.EachLaws.{star-first, bar-first}
+use Rattle.repair.proofs.EachLaws.{star-first, bar-first, not-ordinary, not-bars}
 
 -- the bytes of some pieces together
 unfoldable pub total : List (List ℕ) → ℕ
@@ -41,20 +41,6 @@ take-total zero ts = omega arith
 take-total (suc n) [] = omega arith
 take-total (suc n) (t ∷ ts) = omega (arith, take-total n ts)
 
-keep-short : (x : ℕ) (xs : List ℕ) → length (keep x xs) ≤ length xs + 1
-unfolding keep
-keep-short x [] = go (eqb x 13)
-  where
-    go : (t : Bool) → length (cond t [] (x ∷ [])) ≤ 1
-    go true = omega arith
-    go false = omega arith
-keep-short x (y ∷ ys) = omega arith
-
-pub without-short : (s : List ℕ) → length (withoutCRs s) ≤ length s
-unfolding withoutCRs
-without-short [] = omega arith
-without-short (x ∷ xs) = omega (arith, keep-short x (withoutCRs xs), without-short xs)
-
 -- ---- a data record is not filled: its first token begins neither `*` nor `=`
 data-first : (line : List ℕ) → kindOf line ≡ Data → (isStar line ≡ false) × (isBar line ≡ false)
 unfolding kindOf isStar isBar
@@ -67,16 +53,6 @@ data-first line = go (sameBytes (ascii "") line) (beginsWith (ascii "!!!") line)
     go false false false true e h = absurd (let z : _≡_ {A = ℕ} 0 1 = cc in omega arith)
     go false false false false true h = absurd (let z : _≡_ {A = ℕ} 0 1 = cc in omega arith)
     go false false false false false h = (refl, refl)
-
-not-ordinary : (line : List ℕ) → isStar line ≡ false → each isOrdinary (tokensOf line) ≡ false
-unfolding headD each isOrdinary
-not-ordinary line e =
-    let f : isStar (take (indexOf 9 line) line) ≡ false = rw (first-piece 9 line) at (sym (star-first line) ∙ e) in
-    rw (first-piece 9 line, f)
-
-not-bars : (ts : List (List ℕ)) → isBar (firstOf ts) ≡ false → identicalBars ts ≡ false
-unfolding identicalBars
-not-bars ts e = rw e
 
 unfilled : (n : ℕ) (ts : List (List ℕ)) → each isOrdinary ts ≡ false → identicalBars ts ≡ false → total (repaired n ts) ≤ total ts
 unfolding repairOf repairBy

@@ -16,6 +16,7 @@ use Rattle.reading.specs.State.{Part, State, Result, Step, refused, goes, ends,
 use Rattle.reading.specs.Notices.{quiet, after, keep, notify, notifySignifiers}
 use Rattle.reading.specs.Bars.{anyNoted}
 use Rattle.reading.specs.Notes.{behind, andThen}
+use Rattle.reading.proofs.StateLaws.{set-noted}
 
 -- what holds of both answers to a test holds of its answer
 pub either : {A : Type 0} (P : A → Type 0) (t : Bool) (x y : A) → P x → P y → P (cond t x y)
@@ -138,11 +139,6 @@ unfolding notifySignifiers
 signifiers-hold k j bytes st h = keep-holds _ bytes st h
 
 -- ---- parts
-noted-set : (ps : List Part) (p : ℕ) (x d : Part) → x .noted ≡ getD ps p d .noted → anyNoted (set ps p x) ≡ anyNoted ps
-unfolding anyNoted
-noted-set [] p x d e = refl
-noted-set (q ∷ ps) zero x d e = ap (λ (t : Bool). t || anyNoted ps) e
-noted-set (q ∷ ps) (suc p) x d e = ap (λ (t : Bool). q .noted || t) (noted-set ps p x d e)
 
 pub noted-map : (f : Part → Part) → ((p : Part) → f p .noted ≡ p .noted) → (ps : List Part) → anyNoted (map f ps) ≡ anyNoted ps
 unfolding anyNoted
@@ -162,4 +158,4 @@ parts-hold {bars = bars} {ps = ps} qs few same h = record {
 
 pub part-holds : {b n : ℕ} (p : ℕ) (x : Part) (st : State) → x .noted ≡ partAt st p .noted → Holds b n st → Holds b n (withPart st p x)
 part-holds p x st e h =
-    parts-hold (set (st .parts) p x) (omega (arith, h .parts-few, length-set (st .parts) p x)) (noted-set (st .parts) p x _ e) h
+    parts-hold (set (st .parts) p x) (omega (arith, h .parts-few, length-set (st .parts) p x)) (set-noted (st .parts) p x _ e) h

@@ -20,10 +20,11 @@ use Rattle.reading.specs.Bars.{anyNoted, closing}
 use Rattle.reading.specs.Records.{readLine, isRecord}
 use Rattle.reading.specs.Text.{Answer, refusal, accepted, partRecord, endRecord, lastClosing, lastRecords, finish, readLines, readText, sheetBytes}
 use Rattle.extent.specs.Extent.{Extent}
-use Rattle.extent.proofs.LineLaws.{total, lines-total, without-short}
+use Rattle.extent.proofs.LineLaws.{total, lines-total}
 use Rattle.extent.proofs.StateLaws.{Holds, After, Passes, bytes-append, bytes-none, bytes-one, widen, quiet-holds}
 use Rattle.extent.proofs.BarLaws.{bytes-parts, closing-holds}
 use Rattle.extent.proofs.RecordLaws.{line-holds}
+use Rattle.lines.proofs.TrimLaws.{content-short}
 
 -- ---- the end
 last-holds : {b n : ℕ} (st : State) → Holds b n st → After b n (lastClosing st)
@@ -99,7 +100,7 @@ lines-bounded : {b : ℕ} (begun : Bool) (k at : ℕ) (before : List Record) (st
 unfolding readLines total
 lines-bounded begun k at before st [] p h = finish-bounded begun before st (omega arith) h
 lines-bounded {b} begun k at before st (l ∷ ls) p h =
-    let short = without-short l in
+    let short = content-short l in
     step-bounded {c = b + 5 * length (withoutCRs l)} (length (recordsBytes before)) before (readLine begun (k + 1) at (withoutCRs l) st)
     (λ (r : Result). readLines (begun || isRecord (kindOf (withoutCRs l))) (k + 1) (at + length l + 1) (before ++ r .records) (r .state) ls) refl (omega arith)
     (line-holds begun (k + 1) at (withoutCRs l) st h)

@@ -44,20 +44,6 @@ split-bytes b (x ∷ s) h = join-bytes (eqb x b) x (split b s) (h .0) (split-byt
 
 -- ---- without trailing CRs
 
-keep-length : (x : ℕ) (ys : List ℕ) → length (keep x ys) ≤ suc (length ys)
-unfolding keep
-keep-length x [] = go (eqb x 13)
-  where
-    go : (t : Bool) → length (cond t [] (x ∷ [])) ≤ 1
-    go true = omega arith
-    go false = omega arith
-keep-length x (y ∷ ys) = omega arith
-
-pub content-length : (s : List ℕ) → length (withoutCRs s) ≤ length s
-unfolding withoutCRs
-content-length [] = omega arith
-content-length (x ∷ s) = omega (arith, keep-length x (withoutCRs s), content-length s)
-
 keep-bytes : (x : ℕ) (ys : List ℕ) → u8 x → All u8 ys → All u8 (keep x ys)
 unfolding keep
 keep-bytes x [] h k = go (eqb x 13)

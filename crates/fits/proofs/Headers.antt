@@ -20,8 +20,9 @@ use Rattle.reading.specs.State.{State, refused, goes, withRow, withParts}
 use Rattle.reading.specs.Notices.{Token, placed, spanOfToken, after, notify}
 use Rattle.reading.specs.Header.{keySpan, valueSpan, byKey, readReference, noticeOthers, freshParts, anyKern, readHeader}
 use Rattle.fits.proofs.Cuts.{TokenFits, split-total, split-bytes, placed-fit, placed-length}
-use Rattle.fits.proofs.Rows.{header-length, header-fits}
+use Rattle.fits.proofs.Rows.{header-fits}
 use Rattle.fits.proofs.Good.{Good, Fine, FineStep, refuses, going, PartGood, span-fits, token-span, fresh-good, fine-quiet, fine-after, fine-keep, plain-notice, fine-notify}
+use Rattle.paths.proofs.TextLaws.{header-length}
 
 -- ---- references
 

@@ -26,6 +26,7 @@ use Rattle.token.specs.declared.pitches.Tone.{Tone}
 use Rattle.token.specs.declared.pitches.Sound.{Sound}
 use Rattle.token.specs.declared.pitches.Sound.the-variants.{Silence, Of}
 use Rattle.fits.proofs.Each.{all-append}
+use Rattle.token.proofs.FewLaws.{marks-few, articulations-few}
 
 -- ---- values
 
@@ -56,25 +57,10 @@ into-bytes x ((y ∷ r) ∷ rs) h k = go (joins x y)
     go true = ((h, k .0), k .1)
     go false = ((h, tt), k)
 
-into-length : (x : ℕ) (rs : List (List ℕ)) → length (into x rs) ≤ suc (length rs)
-unfolding into
-into-length x [] = omega arith
-into-length x ([] ∷ rs) = omega arith
-into-length x ((y ∷ r) ∷ rs) = go (joins x y)
-  where
-    go : (t : Bool) → length (cond t ((x ∷ y ∷ r) ∷ rs) ((x ∷ []) ∷ (y ∷ r) ∷ rs)) ≤ suc (suc (length rs))
-    go true = omega arith
-    go false = omega arith
-
 runs-bytes : (s : List ℕ) → All u8 s → All (All u8) (runs s)
 unfolding runs
 runs-bytes [] h = tt
 runs-bytes (x ∷ s) h = into-bytes x (runs s) (h .0) (runs-bytes s (h .1))
-
-runs-length : (s : List ℕ) → length (runs s) ≤ length s
-unfolding runs
-runs-length [] = omega arith
-runs-length (x ∷ s) = omega (arith, into-length x (runs s), runs-length s)
 
 abbrev pub ItemFits : Item → Type 0
 ItemFits (Digits v) = ValueFits v
@@ -98,39 +84,13 @@ unfolding itemsOf
 all-items [] h = tt
 all-items (r ∷ rs) h = (item-fits r (h .0), all-items rs (h .1))
 
-items-of : (rs : List (List ℕ)) → length (itemsOf rs) ≡ length rs
-unfolding itemsOf
-items-of [] = refl
-items-of (r ∷ rs) = ap suc (items-of rs)
-
 pub items-fit : (s : List ℕ) → All u8 s → All ItemFits (items s)
 items-fit s h = all-items (runs s) (runs-bytes s h)
 
-pub items-length : (s : List ℕ) → length (items s) ≤ length s
-items-length s = omega (arith, items-of (runs s), runs-length s)
-
 -- ---- marks and articulations
 
-marks-length : (is : List Item) → length (marks is) ≤ length is
-unfolding marks
-marks-length [] = omega arith
-marks-length (Digits v ∷ is) = omega (arith, marks-length is)
-marks-length (Letters c n ∷ is) = omega (arith, marks-length is)
-marks-length (Blank ∷ is) = omega (arith, marks-length is)
-marks-length (Mark b ∷ is) = omega (arith, marks-length is)
-
-articulations-in : (bs : List ℕ) → length (articulationsIn bs) ≤ length bs
-unfolding articulationsIn
-articulations-in [] = omega arith
-articulations-in (b ∷ bs) = go (ltb (articulation b) 5) (articulations-in bs)
-  where
-    go : (t : Bool) → length (articulationsIn bs) ≤ length bs
-        → length (cond t (articulation b ∷ articulationsIn bs) (articulationsIn bs)) ≤ suc (length bs)
-    go true h = omega arith
-    go false h = omega arith
-
 pub articulations-length : (is : List Item) → length (articulationsIn (marks is)) ≤ length is
-articulations-length is = omega (arith, articulations-in (marks is), marks-length is)
+articulations-length is = omega (arith, articulations-few (marks is), marks-few is)
 
 pub articulations-fit : (bs : List ℕ) → All u8 (articulationsIn bs)
 unfolding articulationsIn
@@ -221,20 +181,3 @@ signifiers-fit s (Mark b ∷ is) h = go (passes s b) (signifiers-fit s is (h .1)
     go : (t : Bool) → All u8 (signifiers s is) → All u8 (cond t (signifiers s is) (b ∷ signifiers s is))
     go true a = a
     go false a = (h .0, a)
-
-pub signifiers-length : (s : Bool) (is : List Item) → length (signifiers s is) ≤ length is
-unfolding signifiers
-signifiers-length s [] = omega arith
-signifiers-length s (Digits v ∷ is) = omega (arith, signifiers-length s is)
-signifiers-length s (Letters c n ∷ is) = go (fits s (pitchOf c n)) (signifiers-length true is) (signifiers-length s is)
-  where
-    go : (t : Bool) → length (signifiers true is) ≤ length is → length (signifiers s is) ≤ length is
-        → length (cond t (signifiers true is) (c ∷ signifiers s is)) ≤ suc (length is)
-    go true a b = omega arith
-    go false a b = omega arith
-signifiers-length s (Blank ∷ is) = omega (arith, signifiers-length false is)
-signifiers-length s (Mark b ∷ is) = go (passes s b) (signifiers-length s is)
-  where
-    go : (t : Bool) → length (signifiers s is) ≤ length is → length (cond t (signifiers s is) (b ∷ signifiers s is)) ≤ suc (length is)
-    go true a = omega arith
-    go false a = omega arith

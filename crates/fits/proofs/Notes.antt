@@ -26,11 +26,12 @@ use Rattle.reading.specs.Notices.{Token, spanOfToken, quiet, notify}
 use Rattle.reading.specs.Bars.{isKernSpine}
 use Rattle.reading.specs.Notes.{bit, flagsOf, pitchOfTone, beamIn, sounded, noteRecord, addNote, behind, byOutcome, signify, inferredFor, readToken-at, readSpine, andThen, readTokens, readData}
 use Rattle.fits.proofs.Each.{either, all-map, all-append}
-use Rattle.fits.proofs.Items.{ToneFits, items-fit, items-length, heard-fits, heard-length, articulations-fit, articulations-length, alter-fits, signifiers-fit, signifiers-length}
+use Rattle.fits.proofs.Items.{ToneFits, items-fit, heard-fits, heard-length, articulations-fit, articulations-length, alter-fits, signifiers-fit}
 use Rattle.fits.proofs.Outcomes.{Sized, OutcomeFits, token-fits}
 use Rattle.fits.proofs.Cuts.{TokenFits}
 use Rattle.fits.proofs.Rows.{SpineFits}
 use Rattle.fits.proofs.Good.{Good, Fine, FineStep, refuses, going, ending, token-span, part-good, with-part, fine-quiet, fine-after, fine-notify, fine-signifiers}
+use Rattle.token.proofs.FewLaws.{items-few, signifiers-few}
 
 -- ---- the record
 
@@ -71,7 +72,7 @@ shorter false ts n h = h
 tones-length : (token : List ℕ) → length (notePitches token) ≤ length token
 tones-length token =
     shorter (restOf (items token)) (pitchesOf (items token)) (length token)
-    (omega (arith, heard-length Silence (items token), items-length token))
+    (omega (arith, heard-length Silence (items token), items-few token))
 
 note-fits : {m : ℕ} (p v k j : ℕ) (t : Token) (n : Note) (st : State) → u8 p → u8 v → u32 k → u16 j → m < 134217728 → TokenFits t → Sized n
     → Listed (t .bytes) n → Good m st → Fits (noteRecord p v k j (t .bytes) n st)
@@ -87,7 +88,7 @@ note-fits p v k j t n st hp hv hk hj w f s l g =
           hk,
           (
             omega (arith, l .pitches, tones-length (t .bytes), f .ends),
-            (omega (arith, l .articulations, articulations-length (items (t .bytes)), items-length (t .bytes), f .ends), tt),
+            (omega (arith, l .articulations, articulations-length (items (t .bytes)), items-few (t .bytes), f .ends), tt),
           ),
         ),
       );
@@ -173,7 +174,7 @@ fine-token : {m : ℕ} (all : List (List ℕ)) (kern : List Bool) (p v k i : ℕ
 unfolding readToken-at
 fine-token {m} all kern p v k i t st hp hv hk hi w f g =
     let r = reported-fits (badLength false false (items (t .bytes))) (signifiersOf (items (t .bytes))) (length (t .bytes))
-    (omega (arith, signifiers-length false (items (t .bytes)), items-length (t .bytes))) (signifiers-fit false (items (t .bytes)) (items-fit (t .bytes) (f .bytes))) in
+    (omega (arith, signifiers-few false (items (t .bytes)), items-few (t .bytes))) (signifiers-fit false (items (t .bytes)) (items-fit (t .bytes) (f .bytes))) in
     let peers : List ℕ = inferredFor all kern i (t .bytes) in
     either (FineStep m) (isNull (t .bytes)) (goes (quiet st))
     (behind (signify (reported (t .bytes)) k (i + 1) st) (byOutcome (readToken (t .bytes) peers) p v k (i + 1) t))

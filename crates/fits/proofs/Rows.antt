@@ -124,12 +124,6 @@ step-fits row ts h =
 
 -- ---- the header
 
-pub header-length : (p : ℕ) (ks : List Bool) → length (headerFrom p ks) ≡ length ks
-unfolding headerFrom
-header-length p [] = refl
-header-length p (true ∷ ks) = ap suc (header-length (suc p) ks)
-header-length p (false ∷ ks) = ap suc (header-length p ks)
-
 pub header-fits : (p : ℕ) (ks : List Bool) → p + length ks ≤ 256 → All SpineFits (headerFrom p ks)
 unfolding headerFrom
 header-fits p [] h = tt

@@ -17,10 +17,11 @@ use Rattle.reading.specs.Bars.{anyNoted, closing}
 use Rattle.reading.specs.Records.{readLine, isRecord}
 use Rattle.reading.specs.Text.{Answer, refusal, accepted, partRecord, lastPart, endRecord, lastClosing, lastRecords, finish, readLines, readText}
 use Rattle.fits.proofs.Each.{either, all-append, all-reverse, all-map, all-bytes}
-use Rattle.fits.proofs.Cuts.{total, split-total, split-bytes, content-length, content-bytes}
+use Rattle.fits.proofs.Cuts.{total, split-total, split-bytes, content-bytes}
 use Rattle.fits.proofs.Good.{numbers, Good, Fine, FineStep, going, ending, PartGood, good-start, good-more, fresh-good, fine-quiet}
 use Rattle.fits.proofs.Bars.{fine-closing}
 use Rattle.fits.proofs.Lines.{fine-line}
+use Rattle.lines.proofs.TrimLaws.{content-short}
 
 -- ---- the end
 
@@ -87,7 +88,7 @@ lines-fit begun k at before st [] w t b h g = finish-fits begun before st (omega
 lines-fit begun k at before st (l ∷ ls) w t b h g =
     go (readLine begun (k + 1) at (withoutCRs l) st)
     (fine-line (k + 1) at (withoutCRs l)
-    (record { number = omega arith; ends = omega (arith, content-length l); bytes = content-bytes l (b .0) }) (omega arith) begun st g)
+    (record { number = omega arith; ends = omega (arith, content-short l); bytes = content-bytes l (b .0) }) (omega arith) begun st g)
     (λ (r : Result) (f : Fine (k + 1) r).
     lines-fit (begun || isRecord (kindOf (withoutCRs l))) (k + 1) (at + length l + 1) (before ++ r .records) (r .state) ls (omega arith) (omega arith) (b .1)
     (all-append Fits before (r .records) h (f .records)) (f .state))

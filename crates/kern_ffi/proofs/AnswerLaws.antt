@@ -20,12 +20,7 @@ use Rattle.reader.specs.Answer.{numbersOf}
 use Rattle.reader.specs.declared.Answer.{Answer as Answered}
 use Rattle.reader.specs.declared.Answer.the-variants.{Refused, Accepted}
 use Rattle.kern_ffi.specs.Answer.{numberOf, figureOf, threeOf}
-
-sheet-long : (parts notes : ℕ) (rs : List Record) → length (sheetBytes parts notes rs) ≡ 16 + length (recordsBytes rs)
-unfolding sheetBytes
-sheet-long parts notes rs =
-    let h : Head = record { parts = parts; length = 16 + length (recordsBytes rs); notes = notes } in
-    length-append (headBytes h) (recordsBytes rs) ∙ ap (λ (n : ℕ). n + length (recordsBytes rs)) (head-length h)
+use Rattle.reader.proofs.AnswerLaws.{sheet-long}
 
 -- a refusal has a number from 1 to 13, an acceptance 0
 abbrev Tells : List ℕ → List ℕ → ℕ × ℕ × ℕ → Type 0

@@ -1,2 +1,3 @@
--- Worked texts.
+-- Laws on the state; worked texts.
+pub mod StateLaws
 pub mod Examples

@@ -20,7 +20,7 @@ use Rattle.repair.specs.Repair.{each, firstOf, isOrdinary, isBar, identicalBars
 use Rattle.repair.specs.declared.Repair.{Repair}
 use Rattle.repair.specs.declared.Repair.the-variants.{Whole, Cut, Stars, Bars}
 use Rattle.repair.specs.declared.Repaired.the-variants.{Even}
-use Rattle.repair.proofs.EachLaws.{star-first, bar-first}
+use Rattle.repair.proofs.EachLaws.{star-first, bar-first, not-ordinary, not-bars}
 use Rattle.repair.proofs.WidthLaws.{Applies, applies, even-width}
 
 -- ---- what a line of some kind begins with
@@ -55,16 +55,6 @@ star-not-bar (x ∷ s) e = go (eqb x 42) refl e
     go true q h = rw (ne-eqb x 61 (λ z. omega (arith, eqb-true x 42 q)))
     go false q h = absurd (let w : _≡_ {A = ℕ} 0 1 = cc in omega arith)
 
-not-ordinary : (line : List ℕ) → isStar line ≡ false → each isOrdinary (tokensOf line) ≡ false
-unfolding headD each isOrdinary
-not-ordinary line e =
-    let f : isStar (take (indexOf 9 line) line) ≡ false = rw (first-piece 9 line) at (sym (star-first line) ∙ e) in
-    rw (first-piece 9 line, f)
-
-not-bars : (ts : List (List ℕ)) → isBar (firstOf ts) ≡ false → identicalBars ts ≡ false
-unfolding identicalBars
-not-bars ts e = rw e
-
 -- filled with stars only where each token is an ordinary interpretation
 stars-ordinary : (n : ℕ) (ts : List (List ℕ)) → repairOf n ts ≡ Stars → each isOrdinary ts ≡ true
 unfolding repairOf
@@ -91,9 +81,6 @@ none-more t n ts h =
 
 some-more : (t : List ℕ) (n : ℕ) (ts : List (List ℕ)) → length ts ≤ n → ts ++ replicate (n - length ts) t ≡ filledWith t n ts
 some-more t n ts h = ap (λ (l : List (List ℕ)). l ++ replicate (n - length ts) t) (sym (take-all n ts h))
-
-short-take : (n : ℕ) (ts : List (List ℕ)) → length (take n ts) ≡ n → n ≤ length ts
-short-take n ts e = omega (arith, length-take n ts)
 
 false-true : false ≡ true → ⊥
 false-true e = let q : _≡_ {A = ℕ} 0 1 = cc in omega arith

@@ -18,8 +18,3 @@ landed-behind r f out at = go (f (r .state)) refl
     go (refused n l g) e = rw e
     go (goes s) e = rw e (ap₂ (going (s .state)) (behind-append (r .records) (s .records) at) (laid-append (r .records) (s .records) out at))
     go (ends s) e = rw e (ap₂ (ending (s .state)) (behind-append (r .records) (s .records) at) (laid-append (r .records) (s .records) out at))
-
--- a step and what comes after it
-pub landed-then : (r : Result) (f : State → Step) (out : List ℕ) (at : ℕ)
-    → landed (notes.andThen (goes r) f) out at ≡ landed (f (r .state)) (laid out at (r .records)) (behind at (r .records))
-landed-then r f out at = landed-behind r f out at

@@ -29,8 +29,9 @@ use Rattle.reading.specs.Records.{noticeRepair, byKind, byRepair, onRow, onReco
 use Rattle.state.specs.Ready.{Steady}
 use Rattle.extent.proofs.StateLaws.{either, Holds, Passes}
 use Rattle.extent.proofs.RecordLaws.{line-holds}
-use Rattle.steady.proofs.RowLaws.{Firm, OutcomeFirm, inside-within, header-in, header-length, step-firm}
+use Rattle.steady.proofs.RowLaws.{Firm, OutcomeFirm, inside-within, header-in, step-firm}
 use Rattle.steady.proofs.KeepLaws.{Is, IsStep, notify-is, reference-is, others-are, columns-are, bar-is, data-is}
+use Rattle.paths.proofs.TextLaws.{header-length}
 
 -- a state whose row is short, and of its parts
 abbrev pub Firmly : State → Type 0
@@ -157,18 +158,4 @@ firm-steady st h f = record {
   parts-few = h .parts-few;
   bars-few = omega (arith, h .closed, h .notes-few);
   within = inside-within (length (st .parts)) (st .row) (f .1);
-}
-
-pub line-steady : {b n : ℕ} (begun : Bool) (k at : ℕ) (s : List ℕ) (st : State) (r : Result) → Holds b n st → Firmly st → readLine begun k at s st ≡ goes r
-    → Steady (r .state)
-line-steady {b} {n} begun k at s st r h f e =
-    firm-steady {b = b + 5 * length s} {n = n + length (recordsBytes (r .records))} (r .state)
-    (subst (Passes (b + 5 * length s) n) e (line-holds begun k at s st h)) (line-firm begun k at s st r f e)
-
-pub start-steady : Steady start
-start-steady = record {
-  row-short = omega arith;
-  parts-few = omega arith;
-  bars-few = omega arith;
-  within = inside-within 0 [] tt;
 }

@@ -47,12 +47,6 @@ header-in n p [] h = tt
 header-in n p (true ∷ ks) h = (omega arith, header-in n (suc p) ks (omega arith))
 header-in n p (false ∷ ks) h = (tt, header-in n p ks h)
 
-pub header-length : (p : ℕ) (ks : List Bool) → length (headerFrom p ks) ≡ length ks
-unfolding headerFrom
-header-length p [] = refl
-header-length p (true ∷ ks) = ap suc (header-length (suc p) ks)
-header-length p (false ∷ ks) = ap suc (header-length p ks)
-
 -- ---- a star record's row
 branch-in : (n : ℕ) (s : Spine) → InPart n s → InPart n (branchFrom s)
 unfolding branchFrom
