@@ -109,6 +109,7 @@ fn kinds() -> Vec<Kind> {
     let comment = "!! Edited from the first edition; slurs in brackets are editorial.\n";
     vec![
         Kind { dense: true, ..by_size("generated chorales, all music", |n| generated(1, n)) },
+        Kind { dense: true, ..by_size("engraved chorales, all music", |n| generated(9, n)) },
         by_records("chorale, all music", four, &chorale, &[]),
         by_records("piano with sub-spines, all music", two, &piano, &[]),
         by_records("256 columns, all music", &wide, &[(&(row("8cL", 256) + &row("8dJ", 256) + &row("=", 256)), 512)], &[]),

@@ -90,7 +90,7 @@ pub fn text(seed: &mut Seed) -> Vec<u8> {
 }
 
 /// The kinds of texts that the library is held to.
-pub const KINDS: [&str; 10] = ["mixed", "chorale", "piano", "paths", "tokens", "interpretations", "headers", "references", "peers", "damaged"];
+pub const KINDS: [&str; 11] = ["mixed", "chorale", "piano", "paths", "tokens", "interpretations", "headers", "references", "peers", "engraved", "damaged"];
 
 /// A text of the k-th kind.
 pub fn kind(seed: &mut Seed, k: usize) -> Vec<u8> {
@@ -104,8 +104,9 @@ pub fn kind(seed: &mut Seed, k: usize) -> Vec<u8> {
         6 => headers(seed),
         7 => references(seed),
         8 => peers(seed),
+        9 => engraved(seed),
         _ => {
-            let k = seed.below(9);
+            let k = seed.below(10);
             let base = kind(seed, k);
             damaged(seed, base)
         }
@@ -289,6 +290,24 @@ fn paths(seed: &mut Seed) -> Vec<u8> {
         row = next;
     }
     lines.push(["4c"].repeat(row.len().max(1)).join("\t"));
+    lines.join("\n").into_bytes()
+}
+
+/// A chorale whose notes carry stems and other marks that are not imported, in some texts past the notices that are kept.
+fn engraved(seed: &mut Seed) -> Vec<u8> {
+    let text = String::from_utf8(chorale(seed)).unwrap();
+    let mut lines: Vec<String> = Vec::new();
+    if seed.below(4) == 0 {
+        lines.extend(vec!["!!!X: y".to_string(); 1000 + seed.below(40)]);
+    }
+    for line in text.split('\n') {
+        if line.is_empty() || line.starts_with(['*', '=', '!']) {
+            lines.push(line.to_string());
+            continue;
+        }
+        let marked = line.split('\t').map(|token| if token == "." { token.to_string() } else { token.to_string() + seed.pick(&["/", "\\", "/", "\\", "", "k", "X/", "\\'", "/;", "\"!", "\u{e9}", "/#", "\\L"]) });
+        lines.push(marked.collect::<Vec<_>>().join("\t"));
+    }
     lines.join("\n").into_bytes()
 }
 

@@ -200,6 +200,7 @@ pub fn edges() -> ExitCode {
         hold(format!("**kern\n{}4c\n", "4x\n".repeat(notices)).into_bytes());
         hold(format!("**kern\n*foo\n{}4c\n", "4x\n".repeat(notices / 2)).into_bytes());
         hold(format!("{}**kern\n4c\n", "!!!X: y\n".repeat(notices)).into_bytes());
+        hold(format!("**kern\t**kern\n{}(8ccL/\t4rX\n8eeJ\\)\t[4GG#k\n=\t=\n4c/n\t4d'x\n", "4c/\t.\n".repeat(notices - 1)).into_bytes());
     }
     for signs in [126, 127, 128, 129, 255, 256, 300] {
         hold(format!("**kern\n4c{}\n4c{}\n4c{}n{}\n", "#".repeat(signs), "-".repeat(signs), "#".repeat(signs), "-".repeat(signs)).into_bytes());

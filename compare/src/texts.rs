@@ -72,10 +72,11 @@ pub fn picked() -> Vec<Vec<u8>> {
     texts
 }
 
-/// Texts that are too long for the list, as a beginning and a piece that comes so many times behind it: 100,000 notes, and one record more.
+/// Texts that are too long for the list, as a beginning and a piece that comes so many times behind it: 100,000 notes, and one record more;
+/// notes with marks that are not imported, more than notices are kept.
 pub fn long() -> Vec<(Vec<u8>, Vec<u8>, usize)> {
     let (header, row) = (format!("{}\n", joined("**kern", 250)).into_bytes(), format!("{}\n", joined("1c", 250)).into_bytes());
-    vec![(header.clone(), row.clone(), 400), (header, row, 401)]
+    vec![(header.clone(), row.clone(), 400), (header, row, 401), (b"**kern\n4c\n".to_vec(), b"8ee-L/\\k\n".to_vec(), 1030)]
 }
 
 /// A text as the program takes it: behind its length and a LF.

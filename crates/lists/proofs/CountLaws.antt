@@ -9,13 +9,13 @@ use Rattle.slices.specs.Store.{stored}
 use Rattle.slices.proofs.StoreLaws.{stored-not, stored-sets}
 use Rattle.items.specs.Items.{items}
 use Rattle.items.specs.declared.Item.{Item}
-use Rattle.token.specs.Token.{restOf, pitchesOf, heard, signifiers}
+use Rattle.token.specs.Token.{restOf, pitchesOf, heard}
 use Rattle.token.specs.Scan.{scanItems, scanOf}
 use Rattle.token.specs.declared.scan.Scan.{Scan}
 use Rattle.token.specs.declared.pitches.Sound.{Sound}
 use Rattle.token.specs.declared.pitches.Sound.the-variants.{Silence}
-use Rattle.lists.specs.Lists.{toneBytes, pitchBytes, articulationBytes, signifierBytes, signifierIn, soundingAfter, endedBy, soundAfter}
-use Rattle.lists.proofs.ItemLaws.{tones-length, signifiers-more, heard-more}
+use Rattle.lists.specs.Lists.{toneBytes, pitchBytes, articulationBytes, signifierBytes, endedBy, soundAfter}
+use Rattle.lists.proofs.ItemLaws.{tones-length, heard-more}
 
 pub note-bytes : (token : List ℕ) → restOf (items token) ≡ false → toneBytes (heard Silence (items token)) ≡ pitchBytes token
 note-bytes token h = sym (ap (λ (t : Bool). toneBytes (cond t [] (pitchesOf (items token)))) h)
@@ -54,9 +54,6 @@ module _ {s : Scan} (token : List ℕ) (e : s ≡ scanOf token) where
   pitches-fit old h l = omega (arith, pitches-length h)
 
 -- what is left behind an item, with the state that the code has there
-pub signifiers-next : (s : Bool) {t : Bool} (i : Item) → t ≡ soundingAfter s i → (is : List Item) → signifiers s (i ∷ is) ≡ signifierIn s i ++ signifiers t is
-signifiers-next s {t} i e is = signifiers-more s i is ∙ ap (λ (x : Bool). signifierIn s i ++ signifiers x is) (sym e)
-
 abbrev pub heardBytes : Sound → List Item → List ℕ
 heardBytes s is = toneBytes (heard s is)
 

@@ -3,35 +3,47 @@ use mathlib.Core.Path.{_≡_, refl, sym, ap, _∙_}
 use Prim.Native.Nat.{ℕ, _*_}
 use native.Mathlib.Omega.{arith}
 use mathlib.Core.List.{List, [], _∷_, _++_, append-nil}
-use mathlib.Core.Bool.{Bool, true, false, cond}
+use mathlib.Core.Bool.{Bool, true, false}
 use lib.ListN.{length}
 use Rattle.pitch.specs.Pitch.{pitchOf, twosComplement}
+use Rattle.duration.specs.declared.Value.{Value}
 use Rattle.items.specs.declared.Item.{Item}
 use Rattle.items.specs.declared.Item.the-variants.{Digits, Letters, Blank, Mark}
 use Rattle.token.specs.Token.{fits, passes, given, heard, signifiers}
 use Rattle.token.specs.declared.pitches.Tone.{Tone}
 use Rattle.token.specs.declared.pitches.Sound.{Sound}
 use Rattle.token.specs.declared.pitches.Sound.the-variants.{Silence, Of}
-use Rattle.lists.specs.Lists.{toneBytes, signifierIn, soundingAfter, soundBytes, endedBy, soundAfter}
+use Rattle.lists.specs.Lists.{toneBytes, soundBytes, endedBy, soundAfter}
 
-pub signifiers-more : (s : Bool) (i : Item) (is : List Item) → signifiers s (i ∷ is) ≡ signifierIn s i ++ signifiers (soundingAfter s i) is
+-- ---- signifiers, by the tests of the code
+pub no-signifiers : (s : Bool) → signifiers s [] ≡ []
 unfolding signifiers
-signifiers-more s (Digits v) is = refl
-signifiers-more s (Letters c n) is = go (fits s (pitchOf c n))
-  where
-    go : (t : Bool) → cond t (signifiers true is) (c ∷ signifiers s is) ≡ cond t [] (c ∷ []) ++ signifiers (cond t true s) is
-    go true = refl
-    go false = refl
-signifiers-more s Blank is = refl
-signifiers-more s (Mark b) is = go (passes s b)
-  where
-    go : (t : Bool) → cond t (signifiers s is) (b ∷ signifiers s is) ≡ cond t [] (b ∷ []) ++ signifiers s is
-    go true = refl
-    go false = refl
+no-signifiers s = refl
 
-pub signifiers-none : (s : Bool) → signifiers s [] ≡ []
-unfolding signifiers
-signifiers-none s = refl
+module _ (s : Bool) where
+  pub past-digits : (v : Value) (is : List Item) → signifiers s (Digits v ∷ is) ≡ signifiers s is
+  unfolding signifiers
+  past-digits v is = refl
+
+  pub past-pitch : (c n : ℕ) {t : Bool} → t ≡ fits s (pitchOf c n) → t ≡ true → (is : List Item) → signifiers s (Letters c n ∷ is) ≡ signifiers true is
+  unfolding signifiers
+  past-pitch c n p h is = rw (sym p ∙ h)
+
+  pub past-run : (c n : ℕ) {t : Bool} → t ≡ fits s (pitchOf c n) → t ≡ false → (is : List Item) → signifiers s (Letters c n ∷ is) ≡ c ∷ signifiers s is
+  unfolding signifiers
+  past-run c n p h is = rw (sym p ∙ h)
+
+  pub past-blank : (is : List Item) → signifiers s (Blank ∷ is) ≡ signifiers false is
+  unfolding signifiers
+  past-blank is = refl
+
+  pub past-known : (b : ℕ) {t : Bool} → t ≡ passes s b → t ≡ true → (is : List Item) → signifiers s (Mark b ∷ is) ≡ signifiers s is
+  unfolding signifiers
+  past-known b p h is = rw (sym p ∙ h)
+
+  pub past-odd : (b : ℕ) {t : Bool} → t ≡ passes s b → t ≡ false → (is : List Item) → signifiers s (Mark b ∷ is) ≡ b ∷ signifiers s is
+  unfolding signifiers
+  past-odd b p h is = rw (sym p ∙ h)
 
 -- ---- pitches
 tones-append : (a b : List Tone) → toneBytes (a ++ b) ≡ toneBytes a ++ toneBytes b
@@ -54,20 +66,6 @@ pub tones-length : (ts : List Tone) → length (toneBytes ts) ≡ 3 * length ts
 unfolding toneBytes
 tones-length [] = refl
 tones-length (t ∷ ts) = omega (arith, tones-length ts)
-
--- ---- a mark or a run, by the tests of the code
-module _ {i : Item} (s : Bool) where
-  pub run-fits : {c n : ℕ} {t : Bool} → i ≡ Letters c n → t ≡ fits s (pitchOf c n) → t ≡ true → signifierIn s i ≡ []
-  run-fits e p h = ap (signifierIn s) e ∙ rw (sym p ∙ h)
-
-  pub run-odd : {c n : ℕ} {t : Bool} → i ≡ Letters c n → t ≡ fits s (pitchOf c n) → t ≡ false → signifierIn s i ≡ c ∷ []
-  run-odd e p h = ap (signifierIn s) e ∙ rw (sym p ∙ h)
-
-  pub mark-passes : {b : ℕ} {t : Bool} → i ≡ Mark b → t ≡ passes s b → t ≡ true → signifierIn s i ≡ []
-  mark-passes e p h = ap (signifierIn s) e ∙ rw (sym p ∙ h)
-
-  pub mark-odd : {b : ℕ} {t : Bool} → i ≡ Mark b → t ≡ passes s b → t ≡ false → signifierIn s i ≡ b ∷ []
-  mark-odd e p h = ap (signifierIn s) e ∙ rw (sym p ∙ h)
 
 pub no-sound : {s : Sound} → s ≡ Silence → soundBytes s ≡ []
 unfolding toneBytes

@@ -1,12 +1,11 @@
 -- The lists of a token as the sheet's bytes, and what each item adds to them.
 use Prim.Native.Nat.{ℕ}
 use mathlib.Core.List.{List, [], _∷_}
-use mathlib.Core.Bool.{Bool, true, false, cond}
 use Rattle.pitch.specs.Pitch.{pitchOf, twosComplement}
 use Rattle.items.specs.Items.{items}
 use Rattle.items.specs.declared.Item.{Item}
 use Rattle.items.specs.declared.Item.the-variants.{Digits, Letters, Blank, Mark}
-use Rattle.token.specs.Token.{articulationsOf, fits, passes, begun, signed, given, signifiersOf}
+use Rattle.token.specs.Token.{articulationsOf, begun, signed, given, signifiersOf}
 use Rattle.token.specs.Outcome.{notePitches}
 use Rattle.token.specs.declared.pitches.Tone.{Tone}
 use Rattle.token.specs.declared.pitches.Sound.{Sound}
@@ -30,18 +29,6 @@ abbrev pub signifierBytes : List ℕ → List ℕ
 signifierBytes token = signifiersOf (items token)
 
 -- ---- item by item
-abbrev pub signifierIn : Bool → Item → List ℕ
-signifierIn sounding (Digits v) = []
-signifierIn sounding (Letters c n) = cond (fits sounding (pitchOf c n)) [] (c ∷ [])
-signifierIn sounding Blank = []
-signifierIn sounding (Mark b) = cond (passes sounding b) [] (b ∷ [])
-
-abbrev pub soundingAfter : Bool → Item → Bool
-soundingAfter sounding (Digits v) = sounding
-soundingAfter sounding (Letters c n) = cond (fits sounding (pitchOf c n)) true sounding
-soundingAfter sounding Blank = false
-soundingAfter sounding (Mark b) = sounding
-
 -- the pitch of a sub-token is given where it ends
 abbrev pub soundBytes : Sound → List ℕ
 soundBytes s = toneBytes (given s)

@@ -1,5 +1,4 @@
 // The lists of a token, written at the start of a buffer.
-use items::Item;
 use pitch::Pitch;
 use token::pitches::Sound;
 use token::pitches::Tone;
@@ -12,7 +11,7 @@ ghost use lib.Seq.{sets};
 ghost use Rattle.slices.specs.Store.{stored};
 ghost use Rattle.items.specs.Items.{items};
 ghost use Rattle.token.specs.Token.{restOf, articulationsIn, begun, signed};
-ghost use Rattle.lists.specs.Lists.{pitchBytes, articulationBytes, signifierBytes, signifierIn, soundingAfter, soundBytes};
+ghost use Rattle.lists.specs.Lists.{pitchBytes, articulationBytes, signifierBytes, soundBytes};
 
 // The articulation of a byte, at k; the place behind it.
 fn put_articulation(out: &mut [u8], k: usize, b: u8) -> usize
@@ -51,58 +50,6 @@ pub fn put_articulations(out: &mut [u8], token: &[u8])
     fill_articulations(out, token);
 }
 
-// The signifier of an item, at k; the place behind it. `sounding` says that the sub-token has a pitch.
-fn put_signifier(out: &mut [u8], k: usize, sounding: bool, item: Item) -> usize
-    requires { ⌜ k + length (signifierIn sounding item) ≤ length (now out) ⌝ }
-    ensures { λ r. ⌜ (now (out .exit) ≡ sets (now (out .entry)) k (signifierIn sounding item)) × (r ≡ k + length (signifierIn sounding item)) ⌝ }
-{
-    match item {
-        Item::Digits(_) => {
-            return k;
-        }
-        Item::Letters { letter, count } => {
-            if token::scan::fits(sounding, letter, count) {
-                return k;
-            }
-            out[k] = letter;
-            return k + 1;
-        }
-        Item::Blank => {
-            return k;
-        }
-        Item::Mark(b) => {
-            if token::scan::passes(sounding, b) {
-                return k;
-            }
-            out[k] = b;
-            return k + 1;
-        }
-    }
-}
-
-// Whether the sub-token has a pitch behind an item.
-fn sounding_after(sounding: bool, item: Item) -> bool
-    ensures { λ r. ⌜ r ≡ soundingAfter sounding item ⌝ }
-{
-    match item {
-        Item::Digits(_) => {
-            return sounding;
-        }
-        Item::Letters { letter, count } => {
-            if token::scan::fits(sounding, letter, count) {
-                return true;
-            }
-            return sounding;
-        }
-        Item::Blank => {
-            return false;
-        }
-        Item::Mark(_) => {
-            return sounding;
-        }
-    }
-}
-
 // The signifiers of a token, for which there is room.
 pub fn fill_signifiers(out: &mut [u8], token: &[u8])
     requires { ⌜ length (signifierBytes (now token)) ≤ length (now out) ⌝ }
@@ -112,11 +59,35 @@ pub fn fill_signifiers(out: &mut [u8], token: &[u8])
     let mut k = 0;
     let mut i = 0;
     while i < token.len() {
-        let next = items::next_item(token, i);
-        let item = next.item;
-        k = put_signifier(out, k, sounding, item);
-        sounding = sounding_after(sounding, item);
-        i = next.end;
+        let b = token[i];
+        if items::is_digit(b) {
+            i = items::digits_end(token, i);
+            continue;
+        }
+        if items::is_letter(b) {
+            let end = items::letter_end(token, i);
+            if token::scan::fits(sounding, b, end - i) {
+                sounding = true;
+                i = end;
+                continue;
+            }
+            out[k] = b;
+            k += 1;
+            i = end;
+            continue;
+        }
+        if b == b' ' {
+            sounding = false;
+            i += 1;
+            continue;
+        }
+        if token::scan::passes(sounding, b) {
+            i += 1;
+            continue;
+        }
+        out[k] = b;
+        k += 1;
+        i += 1;
     }
 }
 

@@ -41,7 +41,7 @@ spine-null (branch p) all kern k i t st e = refl
 spine-null outside all kern k i t st e = refl
 
 -- the spot of a column in a kern line
-abbrev spotOf : List ℕ → Column → Spot
+abbrev pub spotOf : List ℕ → Column → Spot
 spotOf row c = record {
   part = getD row (c .index) 0 / 8 - 1;
   voice = getD row (c .index) 0 % 8;

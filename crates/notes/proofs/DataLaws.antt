@@ -22,11 +22,11 @@ use Rattle.state.specs.declared.Tally.{Tally}
 use Rattle.state.specs.declared.Step.{Step as StepTold}
 use Rattle.state.specs.declared.Step.the-variants.{Refused, Goes, Ends}
 use Rattle.state.specs.Lay.{laid, behind}
-use Rattle.state.specs.View.{stateOf, stopped, going, ending, landed, told}
+use Rattle.state.specs.View.{Landed, stateOf, stopped, going, ending, landed, told}
 use Rattle.state.specs.Ready.{Ready}
 use Rattle.state.proofs.ViewLaws.{landed-behind}
 use Rattle.notes.specs.Spot.{Same, Kept}
-use Rattle.notes.specs.Column.{columnStep}
+use Rattle.notes.specs.Column.{columnStep, rest}
 use Rattle.notes.proofs.NoticeLaws.{same, same-same}
 use Rattle.notes.proofs.TokenLaws.{quiet-step, kept-same}
 use Rattle.reading.proofs.StateLaws.{placed-bytes}
@@ -55,11 +55,6 @@ then-ends (goes r) g out new at place st e = let z : _≡_ {A = ℕ} 0 1 = cc in
 then-ends (ends r) g out new at place st e = sym e
 
 -- ---- what is left from column i on
-abbrev rest : List ℕ → List ℕ → ℕ → ℕ → ℕ → ℕ → State → Step
-rest line row k offset from i st =
-    notes.readTokens (take (length row) (tokensOf line)) (map isKernSpine (rowOf row)) k i (rowOf (drop i row))
-    (placed (offset + from) (take (length row - i) (pieces 9 from line))) st
-
 no-tokens : (all : List (List ℕ)) (kern : List Bool) (k i : ℕ) (row : List Spine) (st : State) → notes.readTokens all kern k i row [] st ≡ goes (quiet st)
 unfolding notes.readTokens
 no-tokens all kern k i [] st = refl
@@ -101,15 +96,20 @@ rest-more line row k offset from i e st h p =
     (sym (add-one i)) next
 
 -- ---- the loop
-pub record Reading (line row parts₀ out₀ : List ℕ) (t₀ : Tally) (k offset : ℕ) (parts out : List ℕ) (t : Tally) (from i : ℕ) : Type 0 where
+-- what the whole comes to is what is left comes to
+pub record Reading (whole : Landed) (line row parts₀ out₀ : List ℕ) (t₀ : Tally) (k offset : ℕ) (parts out : List ℕ) (t : Tally) (from i : ℕ) : Type 0 where
   pub high : i ≤ length row
   pub long : length parts ≡ length parts₀
   pub wide : length out ≡ length out₀
   pub kept : Same t₀ t
-  pub same : landed (notes.readData k (placed offset (take (length row) (tokensOf line))) (stateOf row parts₀ t₀)) out₀ (t₀ .at)
-      ≡ landed (rest line row k offset from i (stateOf row parts t)) out (t .at)
+  pub same : whole ≡ landed (rest line row k offset from i (stateOf row parts t)) out (t .at)
 
-pub data-first : (line row parts out : List ℕ) (t : Tally) (k offset : ℕ) → Reading line row parts out t k offset parts out t 0 0
+-- what a data record comes to
+abbrev pub wholeData : List ℕ → List ℕ → List ℕ → List ℕ → Tally → ℕ → ℕ → Landed
+wholeData line row parts out t k offset =
+    landed (notes.readData k (placed offset (take (length row) (tokensOf line))) (stateOf row parts t)) out (t .at)
+
+pub data-first : (line row parts out : List ℕ) (t : Tally) (k offset : ℕ) → Reading (wholeData line row parts out t k offset) line row parts out t k offset parts out t 0 0
 unfolding notes.readData pieces
 data-first line row parts out t k offset =
     let ts : List (List ℕ) = take (length row) (tokensOf line) in
@@ -124,8 +124,8 @@ data-first line row parts out t k offset =
           ∙ ap₂ (λ (m a : ℕ). landed (notes.readTokens ts (map isKernSpine (rowOf row)) k 0 (rowOf row) (placed a (take m (tokensOf line))) (stateOf row parts t)) out (t .at)) n z;
     }
 
-module _ {line row parts₀ out₀ : List ℕ} {t₀ : Tally} {k offset : ℕ} {parts out : List ℕ} {t : Tally} {from i : ℕ}
-    (inv : Reading line row parts₀ out₀ t₀ k offset parts out t from i) where
+module _ {whole : Landed} {line row parts₀ out₀ : List ℕ} {t₀ : Tally} {k offset : ℕ} {parts out : List ℕ} {t : Tally} {from i : ℕ}
+    (inv : Reading whole line row parts₀ out₀ t₀ k offset parts out t from i) where
   -- between two columns
   pub data-ready : Ready row parts₀ t₀ → Ready row parts t
   data-ready r = record {
@@ -136,15 +136,13 @@ module _ {line row parts₀ out₀ : List ℕ} {t₀ : Tally} {k offset : ℕ} {
     within = λ j p v e. omega (arith, inv .kept .parts, r .within j p v e);
   }
 
-  pub data-past : length line < from → going (stateOf row parts t) (t .at) out
-      ≡ landed (notes.readData k (placed offset (take (length row) (tokensOf line))) (stateOf row parts₀ t₀)) out₀ (t₀ .at)
+  pub data-past : length line < from → going (stateOf row parts t) (t .at) out ≡ whole
   data-past h =
       quiet-step (stateOf row parts t) out (t .at)
       ∙ ap (λ (s : Step). landed s out (t .at)) (sym (rest-past line row k offset from i (stateOf row parts t) h))
       ∙ sym (inv .same)
 
-  pub data-done : length row ≤ i → going (stateOf row parts t) (t .at) out
-      ≡ landed (notes.readData k (placed offset (take (length row) (tokensOf line))) (stateOf row parts₀ t₀)) out₀ (t₀ .at)
+  pub data-done : length row ≤ i → going (stateOf row parts t) (t .at) out ≡ whole
   data-done h =
       quiet-step (stateOf row parts t) out (t .at)
       ∙ ap (λ (s : Step). landed s out (t .at)) (sym (rest-done line row k offset from i (stateOf row parts t) h))
@@ -153,12 +151,11 @@ module _ {line row parts₀ out₀ : List ℕ} {t₀ : Tally} {k offset : ℕ} {
   module _ {e : ℕ} (parts′ out′ : List ℕ) (r : StepTold) (h : i < length row) (p : Piece 9 line from e)
       (tells : told r row parts′ out′ ≡ landed (columnStep line row (record { index = i; from = from; end = e; line = k; offset = offset }) (stateOf row parts t)) out (t .at))
       (keeps : Kept t r) where
-    here : landed (notes.readData k (placed offset (take (length row) (tokensOf line))) (stateOf row parts₀ t₀)) out₀ (t₀ .at)
-        ≡ landed (notes.andThen (columnStep line row (record { index = i; from = from; end = e; line = k; offset = offset }) (stateOf row parts t)) (rest line row k offset (e + 1) (i + 1))) out (t .at)
+    here : whole ≡ landed (notes.andThen (columnStep line row (record { index = i; from = from; end = e; line = k; offset = offset }) (stateOf row parts t)) (rest line row k offset (e + 1) (i + 1))) out (t .at)
     here = inv .same ∙ ap (λ (s : Step). landed s out (t .at)) (rest-more line row k offset from i e (stateOf row parts t) h p)
 
     pub data-turn : {u : Tally} → r ≡ Goes u → length parts′ ≡ length parts → length out′ ≡ length out
-        → Reading line row parts₀ out₀ t₀ k offset parts′ out′ u (e + 1) (i + 1)
+        → Reading whole line row parts₀ out₀ t₀ k offset parts′ out′ u (e + 1) (i + 1)
     data-turn {u} q lp lo =
         let tells′ : going (stateOf row parts′ u) (u .at) out′ ≡ landed (columnStep line row (record { index = i; from = from; end = e; line = k; offset = offset }) (stateOf row parts t)) out (t .at)
         = ap (λ (s : StepTold). told s row parts′ out′) (sym q) ∙ tells in
@@ -173,7 +170,7 @@ module _ {line row parts₀ out₀ : List ℕ} {t₀ : Tally} {k offset : ℕ} {
         }
 
     pub data-stops : {n l f : ℕ} → r ≡ Refused n l f
-        → told r row parts′ out′ ≡ landed (notes.readData k (placed offset (take (length row) (tokensOf line))) (stateOf row parts₀ t₀)) out₀ (t₀ .at)
+        → told r row parts′ out′ ≡ whole
     data-stops {n} {l} {f} q =
         let back : told r row parts′ out′ ≡ stopped n l f = ap (λ (s : StepTold). told s row parts′ out′) q in
         back
@@ -181,7 +178,7 @@ module _ {line row parts₀ out₀ : List ℕ} {t₀ : Tally} {k offset : ℕ} {
         ∙ then-stops (columnStep line row (record { index = i; from = from; end = e; line = k; offset = offset }) (stateOf row parts t)) (rest line row k offset (e + 1) (i + 1)) out (t .at) n l f (sym back ∙ tells))
 
     pub data-ends : {u : Tally} → r ≡ Ends u
-        → told r row parts′ out′ ≡ landed (notes.readData k (placed offset (take (length row) (tokensOf line))) (stateOf row parts₀ t₀)) out₀ (t₀ .at)
+        → told r row parts′ out′ ≡ whole
     data-ends {u} q =
         let back : told r row parts′ out′ ≡ ending (stateOf row parts′ u) (u .at) out′ = ap (λ (s : StepTold). told s row parts′ out′) q in
         back

@@ -7,3 +7,4 @@ pub mod PeerLaws
 pub mod ShapeLaws
 pub mod ColumnLaws
 pub mod DataLaws
+pub mod StretchLaws

@@ -1,9 +1,11 @@
 -- Notices of a token as the code leaves them.
 use mathlib.Core.Path.{_≡_, refl, sym, ap, _∙_}
-use Prim.Native.Nat.{ℕ}
+use Prim.Native.Nat.{ℕ, _≤_}
+use native.Mathlib.Omega.{arith}
 use mathlib.Core.List.{List, [], _∷_}
 use mathlib.Core.Bool.{Bool, true, false}
 use lib.ListN.{length}
+use borrow.Author.Tests.{le-ltb}
 use Rattle.token.specs.Outcome.{reported}
 use Rattle.sheet.specs.declared.Notice.{Notice}
 use Rattle.sheet.specs.declared.Span.{Span}
@@ -67,6 +69,14 @@ pub signify-some : (bs : List ℕ) (k j : ℕ) → (length bs ≡ 0 → ⊥) →
 unfolding notifySignifiers
 signify-some [] k j e st = absurd (e refl)
 signify-some (b ∷ bs) k j e st = refl
+
+-- once 1,024 notices are kept, none is
+pub signify-full : (t : Tally) (old bs : List ℕ) (k j : ℕ) → 1024 ≤ t .notices → Noticed t t old old (notes.signify bs k j)
+unfolding laid keptRecords afterKept
+signify-full t old [] k j h = noticed-none t old (notes.signify [] k j) (λ st. refl)
+signify-full t old (b ∷ bs) k j h =
+    noticed-by t (signifiersNotice k j (b ∷ bs)) (b ∷ bs) old (notes.signify (b ∷ bs) k j) (λ st. signify-some (b ∷ bs) k j (λ e. let z : _≡_ {A = ℕ} 0 1 = cc in omega arith) st)
+    (sym (rw (le-ltb (t .notices) 1024 h))) (sym (rw (le-ltb (t .notices) 1024 h)))
 
 pub signify-as : (token bs : List ℕ) (k j : ℕ) → reported token ≡ bs → (length bs ≡ 0 → ⊥) → (st : State)
     → notes.signify (reported token) k j st ≡ keep (signifiersNotice k j bs) bs st

@@ -34,7 +34,7 @@ use Rattle.notes.specs.declared.Spot.{Spot}
 use Rattle.notes.specs.Beam.{beamBy, soundedBy}
 use Rattle.notes.specs.Spot.{tokenAt, tokenStep, noteAt, withNote, Same, Kept, Noticed, inferredNotice}
 use Rattle.notes.proofs.BeamLaws.{sounded-by, beam-by}
-use Rattle.notes.proofs.NoticeLaws.{same-same, noticed-none, signify-none, noticed-goes, noticed-behind}
+use Rattle.notes.proofs.NoticeLaws.{same-same, noticed-none, signify-none, signify-full, noticed-goes, noticed-behind}
 
 -- ---- the note
 pub note-refused : (p v k j at : ℕ) (token : List ℕ) (n : Note) (st : State) (out : List ℕ) (place : ℕ) → 100000 ≤ st .notes
@@ -162,11 +162,14 @@ module _ (cells parts token : List ℕ) (inferred : Value) (s : Spot) {t u : Tal
       token-step (e
       ∙ ap (λ (x : Outcome). landed (notes.byOutcome x (s .part) (s .voice) (s .line) (s .column) (tokenAt s token) (stateOf cells parts u)) new (u .at)) (sym q))
 
--- a token of the usual shape comes to its note, whatever length its peers give
+-- a token of the usual shape comes to its note, whatever length its peers give; of odd marks no notice is kept any more
 pub plain-step : (cells parts token : List ℕ) (inferred : Value) (s : Spot) (t : Tally) (old : List ℕ) {p : Plain} {l : Landed} → PlainToken token p
+    → (p .odd ≡ true → 1024 ≤ t .notices)
     → l ≡ landed (notes.addNote (s .part) (s .voice) (s .line) (s .column) (tokenAt s token) (p .note) (stateOf cells parts t)) old (t .at)
     → l ≡ landed (tokenStep token inferred s (stateOf cells parts t)) old (t .at)
-plain-step cells parts token inferred s t old plain e =
-    let none : Noticed t t old old (notes.signify (reported token) (s .line) (s .column))
-    = noticed-none t old (notes.signify (reported token) (s .line) (s .column)) (λ st. signify-none (reported token) (s .line) (s .column) (ap length (plain .reports)) st) in
-    heard-step cells parts token inferred s refl (plain .sounds) refl none refl (plain .outcome inferred) e
+plain-step cells parts token inferred s t old {p} plain full e =
+    heard-step cells parts token inferred s refl (plain .sounds) refl (unkept (p .odd) refl) refl (plain .outcome inferred) e
+  where
+    unkept : (b : Bool) → p .odd ≡ b → Noticed t t old old (notes.signify (reported token) (s .line) (s .column))
+    unkept true q = signify-full t old (reported token) (s .line) (s .column) (full q)
+    unkept false q = noticed-none t old (notes.signify (reported token) (s .line) (s .column)) (λ st. signify-none (reported token) (s .line) (s .column) (ap length (plain .reports q)) st)

@@ -2,3 +2,4 @@
 pub mod Beam
 pub mod Spot
 pub mod Column
+pub mod Stretch

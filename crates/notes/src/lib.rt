@@ -9,20 +9,18 @@ use token::outcome::Note;
 use token::outcome::Outcome;
 use token::scan::Scan;
 ghost use mathlib.Core.Path.{_≡_};
-ghost use mathlib.Core.Bool.{cond};
+ghost use mathlib.Core.Bool.{true, cond};
 ghost use mathlib.Core.List.{List, map};
 ghost use Prim.Native.Nat.{ℕ, _+_, _^_, _≤_, _<_};
 ghost use lib.ListN.{length, getD, set, take};
 ghost use Rattle.notation.specs.Beam.{beamNumber};
-ghost use Rattle.lines.specs.Lines.{pieceEnd};
 ghost use Rattle.lines.specs.Tokens.{tokensOf};
 ghost use Rattle.token.specs.Scan.{scanOf};
 ghost use Rattle.items.specs.Items.{items};
 ghost use Rattle.token.specs.Token.{articulationsOf};
 ghost use Rattle.token.specs.Outcome.{reported, notePitches};
 ghost use Rattle.duration.specs.Duration.{durationOf};
-ghost use Rattle.duration.specs.declared.Value.{Value};
-ghost use Rattle.plain.specs.Plain.{PlainToken, ShapeAt};
+ghost use Rattle.plain.specs.Plain.{PlainToken};
 ghost use Rattle.spines.specs.Cells.{rowOf};
 ghost use Rattle.reading.specs.State.{freshPart};
 ghost use Rattle.reading.specs.Bars.{isKernSpine};
@@ -32,7 +30,8 @@ ghost use Rattle.state.specs.Parts.{partOf, partsOf};
 ghost use Rattle.state.specs.Ready.{Ready};
 ghost use Rattle.state.specs.View.{stateOf, landed, told};
 ghost use Rattle.notes.specs.Beam.{beamBy, soundedBy};
-ghost use Rattle.notes.specs.Column.{tokenIn, columnStep};
+ghost use Rattle.notes.specs.Column.{columnStep};
+ghost use Rattle.notes.specs.Stretch.{AtOnce, Sung, withStretch, Stretched};
 ghost use Rattle.notes.specs.Spot.{tokenAt, tokenStep, noteAt, withNote, Kept, Noticed, inferredNotice, Sited};
 
 // Where a token stands: its part and voice, line and column from 1, and its offset in the text.
@@ -269,31 +268,6 @@ pub fn read_token(
     }
 }
 
-// The NOTE of a token of the usual shape, which gives no notice.
-fn add_plain(
-    token: &[u8],
-    p: Plain,
-    spot: Spot,
-    parts: &mut [u32],
-    tally: Tally,
-    out: &mut [u8],
-) -> Step
-    requires { ⌜ Sited (now token) (now parts) spot tally × PlainToken (now token) p ⌝ }
-    ensures { λ r. ⌜ ((inferred : Value) (cells : List ℕ) → told r cells (now (parts .exit)) (now (out .exit)) ≡ landed (tokenStep (now (token .entry)) inferred spot (stateOf cells (now (parts .entry)) tally)) (now (out .entry)) (tally .at)) × Kept tally r ⌝ }
-{
-    if 100000 <= tally.notes {
-        return Step::Refused {
-            number: 10,
-            line: spot.line as usize,
-            figure: 0,
-        };
-    }
-    let beam = sound_part(parts, tally.parts, spot.part, spot.voice, p.starts, p.ends);
-    let note = note_at(p.note, spot, tally.bars, beam);
-    let at = writing::write_plain(out, tally.at, note, p.tone, token);
-    Step::Goes(with_note(tally, at))
-}
-
 // ---- the columns of a record
 
 // Where a token stands in its record: its column from 0, where it begins and ends, and the line's number and offset.
@@ -349,85 +323,152 @@ fn read_column(
     read_token(token, inferred, spot, parts, tally, out)
 }
 
-// The same for a token of the usual shape.
-fn read_plain(
-    line: &[u8],
-    row: &[u16],
-    column: Column,
-    p: Plain,
-    parts: &mut [u32],
-    tally: Tally,
-    out: &mut [u8],
-) -> Step
-    requires { ⌜ (Ready (now row) (now parts) tally × ((column .offset + length (now line) < 2 ^ 27) × ((column .index < length (now row)) × ((column .from ≤ column .end) × (column .end ≤ length (now line)))))) × PlainToken (tokenIn (now line) column .bytes) p ⌝ }
-    ensures { λ r. ⌜ (told r (now (row .entry)) (now (parts .exit)) (now (out .exit)) ≡ landed (columnStep (now (line .entry)) (now (row .entry)) column (stateOf (now (row .entry)) (now (parts .entry)) tally)) (now (out .entry)) (tally .at)) × Kept tally r ⌝ }
+// ---- columns read at one go
+
+// Where a stretch of columns ends: the next column and where its token begins, the notes so far and the place behind them.
+struct Stretch {
+    from: usize,
+    index: usize,
+    notes: u32,
+    at: usize,
+}
+
+// Whether a note of the usual shape is written at once: in a kern line, at most the 100,000th, and with no notice to be kept.
+fn is_plain(cell: u16, notes: u32, odd: bool, notices: u32) -> bool
+    ensures { λ r. ⌜ (r ≡ true → AtOnce cell notes odd notices) ⌝ }
 {
-    let i = column.index;
-    let from = column.from;
-    let end = column.end;
-    let cell = row[i];
-    if cell < 8 {
-        return Step::Goes(tally);
-    }
     if 3 < cell % 8 {
-        return Step::Goes(tally);
+        return false;
     }
-    let token = &line[from..end];
-    let spot = Spot {
-        part: (cell / 8 - 1) as usize,
-        voice: (cell % 8) as usize,
-        line: column.line,
-        column: (i + 1) as u16,
-        at: column.offset + from as u32,
-    };
-    add_plain(token, p, spot, parts, tally, out)
+    if 100000 <= notes {
+        return false;
+    }
+    if odd {
+        return 1024 <= notices;
+    }
+    true
 }
 
-// Where the token ends that begins at an index and has this shape.
-fn end_of(line: &[u8], from: usize, shape: Shape) -> usize
-    requires { ⌜ ShapeAt (now line) from shape ⌝ }
-    ensures { λ r. ⌜ r ≡ pieceEnd 9 (now (line .entry)) from ⌝ }
-{
-    match shape {
-        Shape::Other => {
-            return lines::token_end(line, from);
-        }
-        Shape::Null(end) => {
-            return end;
-        }
-        Shape::Note(p) => {
-            return p.end;
-        }
-    }
-}
-
-// One column, by the shape of its token.
-fn read_shape(
-    line: &[u8],
-    row: &[u16],
-    column: Column,
-    shape: Shape,
+// The NOTE of a token of the usual shape, at a place; the place behind it.
+fn write_plain(
+    token: &[u8],
+    p: Plain,
+    spot: Spot,
     parts: &mut [u32],
     tally: Tally,
+    at: usize,
     out: &mut [u8],
-) -> Step
-    requires { ⌜ (Ready (now row) (now parts) tally × ((column .offset + length (now line) < 2 ^ 27) × ((column .index < length (now row)) × ((column .from ≤ column .end) × (column .end ≤ length (now line)))))) × (ShapeAt (now line) (column .from) shape × (column .end ≡ pieceEnd 9 (now line) (column .from))) ⌝ }
-    ensures { λ r. ⌜ (told r (now (row .entry)) (now (parts .exit)) (now (out .exit)) ≡ landed (columnStep (now (line .entry)) (now (row .entry)) column (stateOf (now (row .entry)) (now (parts .entry)) tally)) (now (out .entry)) (tally .at)) × Kept tally r ⌝ }
+) -> usize
+    requires { ⌜ Sited (now token) (now parts) spot tally × PlainToken (now token) p ⌝ }
+    ensures { λ r. ⌜ Sung (now (token .entry)) p spot tally at (now (parts .entry)) (now (out .entry)) (now (parts .exit)) (now (out .exit)) r ⌝ }
 {
-    match shape {
-        Shape::Other => {
-            return read_column(line, row, column, parts, tally, out);
+    let beam = sound_part(parts, tally.parts, spot.part, spot.voice, p.starts, p.ends);
+    let note = note_at(p.note, spot, tally.bars, beam);
+    writing::write_plain(out, at, note, p.tone, token)
+}
+
+// The columns from one on whose tokens are null or of the usual shape, or that are outside kern.
+fn read_stretch(
+    line: &[u8],
+    row: &[u16],
+    parts: &mut [u32],
+    tally: Tally,
+    number: u32,
+    begin: usize,
+    first: usize,
+    out: &mut [u8],
+) -> Stretch
+    requires { ⌜ Ready (now row) (now parts) tally × ((length (now line) < 2 ^ 27) × (first ≤ length (now row))) ⌝ }
+    ensures { λ r. ⌜ ((offset : ℕ) → Stretched (now (line .entry)) (now (row .entry)) (now (parts .entry)) (now (out .entry)) tally number offset begin first (now (parts .exit)) (now (out .exit)) r) ⌝ }
+{
+    let mut from = begin;
+    let mut i = first;
+    let mut notes = tally.notes;
+    let mut at = tally.at;
+    while i < row.len() {
+        if line.len() < from {
+            return Stretch {
+                from,
+                index: i,
+                notes,
+                at,
+            };
         }
-        Shape::Null(_) => {
-            return Step::Goes(tally);
+        let cell = row[i];
+        if cell < 8 {
+            from = lines::token_end(line, from) + 1;
+            i += 1;
+            continue;
         }
-        Shape::Note(p) => {
-            return read_plain(line, row, column, p, parts, tally, out);
+        let shape = plain::shape_of(line, from);
+        match shape {
+            Shape::Other => {
+                return Stretch {
+                    from,
+                    index: i,
+                    notes,
+                    at,
+                };
+            }
+            Shape::Null(end) => {
+                from = end + 1;
+                i += 1;
+            }
+            Shape::Note(p) => {
+                if !is_plain(cell, notes, p.odd, tally.notices) {
+                    return Stretch {
+                        from,
+                        index: i,
+                        notes,
+                        at,
+                    };
+                }
+                let end = p.end;
+                let token = &line[from..end];
+                let spot = Spot {
+                    part: (cell / 8 - 1) as usize,
+                    voice: (cell % 8) as usize,
+                    line: number,
+                    column: (i + 1) as u16,
+                    at: 0,
+                };
+                at = write_plain(token, p, spot, parts, tally, at, out);
+                notes += 1;
+                from = end + 1;
+                i += 1;
+            }
         }
+    }
+    Stretch {
+        from,
+        index: i,
+        notes,
+        at,
     }
 }
 
-// A data record: its tokens in the columns of the row.
+// The counts at the end of a stretch.
+fn with_stretch(tally: Tally, s: Stretch) -> Tally
+    ensures { λ r. ⌜ r ≡ withStretch tally s ⌝ }
+{
+    let title = tally.title;
+    let composer = tally.composer;
+    let lyricist = tally.lyricist;
+    Tally {
+        active: tally.active,
+        parts: tally.parts,
+        bars: tally.bars,
+        notes: s.notes,
+        notices: tally.notices,
+        tempo: tally.tempo,
+        title,
+        composer,
+        lyricist,
+        at: s.at,
+    }
+}
+
+// A data record: its tokens in the columns of the row, stretches at one go and any other column by itself.
 pub fn read_data(
     line: &[u8],
     row: &[u16],
@@ -440,15 +481,15 @@ pub fn read_data(
     requires { ⌜ Ready (now row) (now parts) tally × ((offset + length (now line) < 2 ^ 27) × (number < 2 ^ 27)) ⌝ }
     ensures { λ r. ⌜ (told r (now (row .entry)) (now (parts .exit)) (now (out .exit)) ≡ landed (readData number (placed offset (take (length (now (row .entry))) (tokensOf (now (line .entry))))) (stateOf (now (row .entry)) (now (parts .entry)) tally)) (now (out .entry)) (tally .at)) × Kept tally r ⌝ }
 {
-    let mut t = tally;
-    let mut from = 0;
-    let mut i = 0;
-    while i < row.len() {
+    let mut s = read_stretch(line, row, parts, tally, number, 0, 0, out);
+    let mut t = with_stretch(tally, s);
+    while s.index < row.len() {
+        let i = s.index;
+        let from = s.from;
         if line.len() < from {
             return Step::Goes(t);
         }
-        let shape = plain::shape_of(line, from);
-        let end = end_of(line, from, shape);
+        let end = lines::token_end(line, from);
         let column = Column {
             index: i,
             from,
@@ -456,7 +497,7 @@ pub fn read_data(
             line: number,
             offset,
         };
-        let step = read_shape(line, row, column, shape, parts, t, out);
+        let step = read_column(line, row, column, parts, t, out);
         match step {
             Step::Refused {
                 number: _,
@@ -469,9 +510,8 @@ pub fn read_data(
                 return step;
             }
             Step::Goes(u) => {
-                t = u;
-                from = end + 1;
-                i += 1;
+                s = read_stretch(line, row, parts, u, number, end + 1, i + 1, out);
+                t = with_stretch(u, s);
             }
         }
     }

@@ -14,14 +14,14 @@ use Rattle.pitch.specs.declared.Pitch.the-variants.{At}
 use Rattle.items.specs.Items.{isDigit, isLetter, runs, itemsOf, items}
 use Rattle.items.specs.declared.Item.{Item}
 use Rattle.items.specs.declared.Item.the-variants.{Letters}
-use Rattle.token.specs.Token.{badLength, upToBlank, marks, countOf, graceFrom, begun, heard, passes, signifiers}
+use Rattle.token.specs.Token.{badLength, upToBlank, marks, countOf, graceFrom, begun, heard, anyOf, passes, signifiers}
 use Rattle.token.specs.declared.pitches.Tone.{Tone}
 use Rattle.token.specs.declared.pitches.Sound.the-variants.{Silence}
-use Rattle.plain.specs.Usual.{markBytes, signBytes, allIn, carried, Said, saidBy, PitchOf, SoundOf, rests, sings}
+use Rattle.plain.specs.Usual.{oddBytes, markBytes, signBytes, allIn, carried, Said, saidBy, PitchOf, SoundOf, rests, sings}
 use Rattle.plain.proofs.PieceLaws.{carried-append}
 use Rattle.plain.proofs.ByteLaws.{clash, each, each-in}
 use Rattle.plain.proofs.ItemLaws.{single, marked, begins, items-marks, items-letters, letter-of, letter-no-digit, not-letter}
-use Rattle.plain.proofs.AspectLaws.{each-head, each-tail, differs, graceless, natural, bad-marks, bad-letters, bad-none, up-only, up-letters, marks-only, marks-letters, count-none, contains-none, grace-none, still-over, heard-before, heard-behind, natural-over, signifiers-marks, signifiers-none}
+use Rattle.plain.proofs.AspectLaws.{each-head, each-tail, differs, graceless, natural, bad-marks, bad-letters, bad-none, up-only, up-letters, marks-only, marks-letters, count-none, contains-none, grace-none, still-over, heard-before, heard-behind, natural-over, not-odd, signifiers-marks, signifiers-none}
 
 -- the sound and the marks of a token, its items, and what is known of them
 pub record Body (bytes : List ℕ) (rest : Bool) (t : Tone) (post : List ℕ) : Type 0 where
@@ -33,7 +33,7 @@ pub record Body (bytes : List ℕ) (rest : Bool) (t : Tone) (post : List ℕ) : 
   pub written : marks body ≡ bs
   pub good : (b : Bool) → badLength true b body ≡ false
   pub tones : heard Silence body ≡ cond rest [] (t ∷ [])
-  pub odd : signifiers false body ≡ []
+  pub odd : anyOf oddBytes post ≡ false → signifiers false body ≡ []
   pub undotted : countOf 46 bs ≡ 0
   pub rests : contains 114 bs ≡ rest
   pub graces : graceFrom 0 bs ≡ 0
@@ -80,7 +80,7 @@ module _ (post : List ℕ) (m : allIn markBytes post ≡ true) where
         written = marks-only (114 ∷ post);
         good = bad-marks true (114 ∷ post) [] (each-in (differs 37) markBytes post refl m) (bad-none true);
         tones = heard-before (114 ∷ post) [];
-        odd = signifiers-marks false (114 ∷ post) [] (each-in (passes false) markBytes post refl m) ∙ signifiers-none false;
+        odd = λ o. signifiers-marks false (114 ∷ post) [] (not-odd false refl post m o) ∙ signifiers-none false;
         undotted = count-empty 46 (114 ∷ post) (each-in (differs 46) markBytes post refl m);
         rests = refl;
         graces = grace-empty (114 ∷ post) (each-in graceless markBytes post refl m);
@@ -158,7 +158,7 @@ module _ (c : ℕ) (cs signs post : List ℕ) (t : Tone) (same : each (λ x. eqb
             ap (λ (p : Pitch). heard (begun Silence p) (marked tail [])) place
             ∙ heard-behind (record { step = t .step; octave = t .octave; alter = 128 }) tail
             ∙ ap (λ (a : ℕ). record { step = t .step; octave = t .octave; alter = a } ∷ []) altered;
-        odd = rw place (signifiers-marks true tail [] (both (passes true) refl refl) ∙ signifiers-none true);
+        odd = λ o. rw place (signifiers-marks true tail [] (each-join (passes true) signs post (each-in (passes true) signBytes signs refl signed) (not-odd true refl post m o)) ∙ signifiers-none true);
         undotted = count-empty 46 tail (both (differs 46) refl refl);
         rests = contains-empty 114 tail (both (differs 114) refl refl);
         graces = grace-empty tail (both graceless refl refl);

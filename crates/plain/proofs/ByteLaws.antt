@@ -11,12 +11,24 @@ use Rattle.slices.specs.Ascii.{ascii}
 use Rattle.slices.specs.Finite.{below}
 use Rattle.notation.specs.Search.{contains}
 use Rattle.token.specs.Token.{articulation}
-use Rattle.plain.specs.Usual.{digitBytes, markBytes, allIn, Said, saidBy, Marking}
+use Rattle.plain.specs.Usual.{digitBytes, oddBytes, markBytes, allIn, Said, saidBy, Marking}
 use Rattle.plain.proofs.PieceLaws.{carried-turn}
 use Rattle.slices.proofs.CompareLaws.{and-left, and-right}
 
 pub clash : {t : Bool} → t ≡ true → t ≡ false → ⊥
 clash {t} p q = let z : _≡_ {A = ℕ} 0 1 = cc in omega arith
+
+pub or-left : (a b : Bool) → (a || b) ≡ false → a ≡ false
+or-left true b e = e
+or-left false b e = refl
+
+pub or-right : (a b : Bool) → (a || b) ≡ false → b ≡ false
+or-right true b e = absurd (clash refl e)
+or-right false b e = e
+
+pub or-only : (a b : Bool) → b ≡ false → (a || b) ≡ true → a ≡ true
+or-only true b q e = refl
+or-only false b q e = absurd (clash e q)
 
 -- a test that passes at each byte of a list
 unfoldable pub each : (ℕ → Bool) → List ℕ → Bool
@@ -103,11 +115,11 @@ none : (small : List ℕ) → each (λ x. not (contains x small)) articulationBy
 none small e b h = not-true (contains b small) (among (λ x. not (contains x small)) articulationBytes e b (articulation-in b h))
 
 pub said-articulation : (s : Said) (b : ℕ) → ltb (articulation b) 5 ≡ true
-    → record { ties = s .ties; tied = s .tied; slurs = s .slurs; slurred = s .slurred; starts = s .starts; ends = s .ends; articulations = s .articulations + 1 }
+    → record { ties = s .ties; tied = s .tied; slurs = s .slurs; slurred = s .slurred; starts = s .starts; ends = s .ends; articulations = s .articulations + 1; odd = s .odd }
     ≡ saidBy s b
 unfolding contains each
 said-articulation s b h =
-    sym (rw (none (ascii "[_") refl b h, none (ascii "]_") refl b h, none (ascii "(") refl b h, none (ascii ")") refl b h, h, sw 76 refl, sw 74 refl))
+    sym (rw (none (ascii "[_") refl b h, none (ascii "]_") refl b h, none (ascii "(") refl b h, none (ascii ")") refl b h, h, none oddBytes refl b h, sw 76 refl, sw 74 refl))
   where
     sw : (x : ℕ) → each (λ y. not (eqb y x)) articulationBytes ≡ true → eqb b x ≡ false
     sw x e = not-true (eqb b x) (among (λ y. not (eqb y x)) articulationBytes e b (articulation-in b h))
@@ -116,11 +128,28 @@ pub articulation-mark : (b : ℕ) → ltb (articulation b) 5 ≡ true → contai
 unfolding contains each
 articulation-mark b h = among (λ x. contains x markBytes) articulationBytes refl b (articulation-in b h)
 
+-- an odd mark
+pub odd-mark : (b : ℕ) → contains b oddBytes ≡ true → contains b markBytes ≡ true
+unfolding contains each
+odd-mark b h = among (λ x. contains x markBytes) oddBytes refl b h
+
+pub said-odd : (s : Said) (b : ℕ) → contains b oddBytes ≡ true
+    → record { ties = s .ties; tied = s .tied; slurs = s .slurs; slurred = s .slurred; starts = s .starts; ends = s .ends; articulations = s .articulations; odd = true }
+    ≡ saidBy s b
+unfolding contains each articulation
+said-odd s b h = sym (rw (out (ascii "[_") refl, out (ascii "]_") refl, out (ascii "(") refl, out (ascii ")") refl, h, no (λ x. eqb x 76) refl, no (λ x. eqb x 74) refl, no (λ x. ltb (articulation x) 5) refl))
+  where
+    no : (test : ℕ → Bool) → each (λ x. not (test x)) oddBytes ≡ true → test b ≡ false
+    no test e = not-true (test b) (among (λ x. not (test x)) oddBytes e b h)
+
+    out : (small : List ℕ) → each (λ x. not (contains x small)) oddBytes ≡ true → contains b small ≡ false
+    out small e = no (λ x. contains x small) e
+
 -- a byte that is no mark says nothing
 pub said-still : (s : Said) (b : ℕ) → contains b markBytes ≡ false → saidBy s b ≡ s
 unfolding contains each
 said-still s b h =
-    rw (part (ascii "[_") markBytes refl b h, part (ascii "]_") markBytes refl b h, part (ascii "(") markBytes refl b h, part (ascii ")") markBytes refl b h, other markBytes b 76 h refl, other markBytes b 74 h refl, a (ltb (articulation b) 5) refl)
+    rw (part (ascii "[_") markBytes refl b h, part (ascii "]_") markBytes refl b h, part (ascii "(") markBytes refl b h, part (ascii ")") markBytes refl b h, other markBytes b 76 h refl, other markBytes b 74 h refl, part oddBytes markBytes refl b h, a (ltb (articulation b) 5) refl)
   where
     a : (t : Bool) → ltb (articulation b) 5 ≡ t → ltb (articulation b) 5 ≡ false
     a true q = absurd (clash (articulation-mark b q) h)

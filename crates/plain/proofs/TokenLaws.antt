@@ -4,7 +4,7 @@ use Prim.Native.Nat.{ℕ, _≤_, _<_, min}
 use native.Mathlib.Nat.{not-suc-le-zero}
 use native.Mathlib.Omega.{arith}
 use mathlib.Core.List.{List, [], _∷_, _++_}
-use mathlib.Core.Bool.{Bool, true, false, cond, not, or-false}
+use mathlib.Core.Bool.{Bool, true, false, cond, not, _||_, or-false}
 use lib.Dec.{eqb}
 use lib.ListN.{length}
 use borrow.Author.Tests.{not-true}
@@ -28,18 +28,18 @@ use Rattle.token.specs.declared.outcome.Outcome.the-variants.{Heard}
 use Rattle.token.specs.declared.pitches.Tone.{Tone}
 use Rattle.token.specs.declared.pitches.Sound.the-variants.{Silence}
 use Rattle.plain.specs.Plain.{PlainToken}
-use Rattle.plain.specs.Usual.{digitBytes, markBytes, allIn, carried, Said, saidBy, opened, noteFrom}
+use Rattle.plain.specs.Usual.{digitBytes, oddBytes, markBytes, allIn, carried, Said, saidBy, opened, noteFrom}
 use Rattle.plain.specs.declared.Plain.{Plain}
 use Rattle.plain.specs.declared.Valued.{Valued}
 use Rattle.plain.proofs.PieceLaws.{carried-append}
-use Rattle.plain.proofs.ByteLaws.{each, each-in}
+use Rattle.plain.proofs.ByteLaws.{each, each-in, or-left, or-right}
 use Rattle.plain.proofs.ItemLaws.{single, marked, begins, begins-over, items-marks, items-digits}
-use Rattle.plain.proofs.AspectLaws.{each-head, differs, graceless, bad-marks, bad-digits, up-marks, first-marks, silent-marks, given-marks, marks-marks, marks-digits, count-none, count-all, contains-none, grace-none, still-over, says, heard-before, heard-digits, signifiers-marks, signifiers-digits}
+use Rattle.plain.proofs.AspectLaws.{each-head, differs, graceless, bad-marks, bad-digits, up-marks, first-marks, silent-marks, given-marks, marks-marks, marks-digits, count-none, count-all, contains-none, grace-none, still-over, says, heard-before, heard-digits, not-odd, signifiers-marks, signifiers-digits}
 use Rattle.plain.proofs.BodyLaws.{Body, each-join}
 
--- the scan of such a token
-abbrev usual : Value → ℕ → Bool → Said → Scan
-usual v dots rest s =
+-- the scan of such a token, with so many signifiers
+abbrev usual : Value → ℕ → Bool → Said → ℕ → Scan
+usual v dots rest s odds =
     record {
       bad = false;
       silent = false;
@@ -47,7 +47,7 @@ usual v dots rest s =
       dots = dots;
       rest = rest;
       pitches = cond rest 0 1;
-      signifiers = 0;
+      signifiers = odds;
       ties = s .ties;
       tied = s .tied;
       slurs = s .slurs;
@@ -154,13 +154,13 @@ module _ (pre ds dots bytes post : List ℕ) (rest : Bool) (t : Tone) (p : allIn
       ∙ heard-before dots (b .body)
       ∙ b .tones
 
-  odd : signifiers false is ≡ []
+  none-odd : anyOf oddBytes pre ≡ false → anyOf oddBytes post ≡ false → signifiers false is ≡ []
   unfolding each passes contains
-  odd =
-      signifiers-marks false pre (Digits (durationOf ds) ∷ marked dots (b .body)) (each-in (passes false) markBytes pre refl p)
+  none-odd e k =
+      signifiers-marks false pre (Digits (durationOf ds) ∷ marked dots (b .body)) (not-odd false refl pre p e)
       ∙ signifiers-digits (durationOf ds) (marked dots (b .body))
       ∙ signifiers-marks false dots (b .body) (each-in (passes false) (46 ∷ []) dots refl o)
-      ∙ b .odd
+      ∙ b .odd k
 
   sounds-is : isNull token ≡ false
   unfolding each
@@ -201,7 +201,7 @@ module _ (pre ds dots bytes post : List ℕ) (rest : Bool) (t : Tone) (p : allIn
         ∙ b .bytesSay u
         ∙ e
 
-    scan-is : scanItems is ≡ usual (durationOf ds) (length dots) rest s
+    scan-is : scanItems is ≡ usual (durationOf ds) (length dots) rest s (length (signifiers false is))
     unfolding scanItems
     scan-is =
         let g = says (opened false false) ms in
@@ -213,8 +213,7 @@ module _ (pre ds dots bytes post : List ℕ) (rest : Bool) (t : Tone) (p : allIn
         let arts : length (articulationsIn (marks is)) ≡ s .articulations = ap (λ (l : List ℕ). length (articulationsIn l)) m ∙ omega (arith, g .articulations, ap (λ (u : Said). u .articulations) marks-say) in
         let given : givenIn (firstSub is) ≡ Length (durationOf ds) = ap givenIn first-is ∙ given-marks pre (durationOf ds) (marked dots (b .body)) in
         let pitches : length (heard Silence is) ≡ cond rest 0 1 = ap length tones ∙ one-or-none rest t in
-        let odds : length (signifiers false is) ≡ 0 = ap length odd in
-        rw (good, silent-marks pre (durationOf ds) (marked dots (b .body)), given, dotted, rested, pitches, odds, ties, tied, slurs, slurred, graces, arts)
+        rw (good, silent-marks pre (durationOf ds) (marked dots (b .body)), given, dotted, rested, pitches, ties, tied, slurs, slurred, graces, arts)
 
     letters-are : lettersOf token ≡ record { starts = s .starts; ends = s .ends }
     letters-are =
@@ -222,6 +221,14 @@ module _ (pre ds dots bytes post : List ℕ) (rest : Bool) (t : Tone) (p : allIn
         let l : contains 76 token ≡ s .starts = sym (g .starts ∙ or-false _) ∙ ap (λ (u : Said). u .starts) bytes-say in
         let j : contains 74 token ≡ s .ends = sym (g .ends ∙ or-false _) ∙ ap (λ (u : Said). u .ends) bytes-say in
         rw (l, j)
+
+    -- it has nothing to report where no mark is odd
+    quiet-token : s .odd ≡ false → signifiers false is ≡ []
+    quiet-token q =
+        let u : Said = carried saidBy (opened false false) pre in
+        let first : u .odd ≡ anyOf oddBytes pre = says (opened false false) pre .odd ∙ or-false _ in
+        let then : (anyOf oddBytes post || u .odd) ≡ false = sym (says u post .odd) ∙ ap (λ (w : Said). w .odd) e ∙ q in
+        none-odd (sym first ∙ or-right (anyOf oddBytes post) (u .odd) then) (or-left (anyOf oddBytes post) (u .odd) then)
 
     -- a token of this shape is a note, whatever its peers give
     module _ (v : Valued) (parts : (w : Scan) → noted false (durationOf ds) w ≡ Heard (noteOf false (v .value) (v .actual) (v .normal) w)) where
@@ -232,15 +239,18 @@ module _ (pre ds dots bytes post : List ℕ) (rest : Bool) (t : Tone) (p : allIn
           ∙ ap (λ (w : Scan). outcomeOf w inferred) scan-is
           ∙ go rest
         where
-          go : (r : Bool) → outcomeOf (usual (durationOf ds) (length dots) r s) inferred ≡ Heard (noteFrom v (length dots) r s)
-          go true = parts (usual (durationOf ds) (length dots) true s)
-          go false = parts (usual (durationOf ds) (length dots) false s)
+          odds : ℕ
+          odds = length (signifiers false is)
 
-      pub plain-token : (x : Plain) → x .note ≡ noteFrom v (length dots) rest s → x .tone ≡ t → x .starts ≡ s .starts → x .ends ≡ s .ends → PlainToken token x
-      plain-token x n tone starts ends =
+          go : (r : Bool) → outcomeOf (usual (durationOf ds) (length dots) r s odds) inferred ≡ Heard (noteFrom v (length dots) r s)
+          go true = parts (usual (durationOf ds) (length dots) true s odds)
+          go false = parts (usual (durationOf ds) (length dots) false s odds)
+
+      pub plain-token : (x : Plain) → x .note ≡ noteFrom v (length dots) rest s → x .tone ≡ t → x .starts ≡ s .starts → x .ends ≡ s .ends → x .odd ≡ s .odd → PlainToken token x
+      plain-token x n tone starts ends odd =
           record {
             outcome = λ i. outcome-is i ∙ ap Heard (sym n);
-            reports = rw (items-are, good) odd;
+            reports = λ q. rw (items-are, good) (quiet-token (sym odd ∙ q));
             sure = rw n;
             letters = letters-are ∙ rw (starts, ends);
             pitches = rw (items-are, rested, n, tone) (ap (λ (l : List Tone). cond rest [] l) tones ∙ twice rest);

@@ -28,9 +28,13 @@ use Rattle.plain.specs.declared.Shape.the-variants.{Other, Null, Note as
 abbrev pub digitBytes : List ℕ
 digitBytes = ascii "0123456789"
 
--- ties, slurs, beams and articulations
+-- the marks that say nothing, of those that ASCII prints
+abbrev pub oddBytes : List ℕ
+oddBytes = ascii "!\"$&*+,/:<=>?@HIKMNOPRSUVWXYZ\\`hijklmopsuvwxyz{|}"
+
+-- ties, slurs, beams and articulations, and those
 abbrev pub markBytes : List ℕ
-markBytes = ascii "LJ[]_()'^~;Tt"
+markBytes = ascii "LJ[]_()'^~;Tt" ++ oddBytes
 
 abbrev pub signBytes : List ℕ
 signBytes = ascii "#-n"
@@ -60,10 +64,11 @@ pub record Said : Type 0 where
   pub starts : Bool
   pub ends : Bool
   pub articulations : ℕ
+  pub odd : Bool
 
 abbrev pub opened : Bool → Bool → Said
 opened ties slurs =
-    record { ties = ties; tied = false; slurs = slurs; slurred = false; starts = false; ends = false; articulations = 0 }
+    record { ties = ties; tied = false; slurs = slurs; slurred = false; starts = false; ends = false; articulations = 0; odd = false }
 
 abbrev pub saidOf : Marked → Said
 saidOf m =
@@ -75,6 +80,7 @@ saidOf m =
       starts = m .starts;
       ends = m .ends;
       articulations = m .articulations;
+      odd = m .odd;
     }
 
 -- one mark more
@@ -88,6 +94,7 @@ saidBy s b =
       starts = eqb b 76 || s .starts;
       ends = eqb b 74 || s .ends;
       articulations = cond (ltb (articulation b) 5) (s .articulations + 1) (s .articulations);
+      odd = contains b oddBytes || s .odd;
     }
 
 -- a state carried over a run of bytes of a line
@@ -159,6 +166,7 @@ pub record Tail (line : List ℕ) (from : ℕ) (opening : Opening) (v : Valued) 
   pub tone : p .tone ≡ sung .tone
   pub starts : p .starts ≡ said .starts
   pub ends : p .ends ≡ said .ends
+  pub odd : p .odd ≡ said .odd
 
 abbrev pub TailAt : List ℕ → ℕ → Opening → Valued → ℕ → Shape → Type 0
 TailAt line from opening v dots Other = Unit {0}

@@ -10,14 +10,15 @@ ghost use mathlib.Core.List.{[], _∷_};
 ghost use lib.ListN.{length};
 ghost use Rattle.notation.specs.Search.{contains};
 ghost use Rattle.plain.specs.Plain.{ShapeAt};
-ghost use Rattle.plain.specs.Usual.{digitBytes, signBytes, Run, opened, saidOf, Marking, Signing, SungAt, Parts, noteFrom, Closed, TailAt};
+ghost use Rattle.plain.specs.Usual.{digitBytes, oddBytes, signBytes, Run, opened, saidOf, Marking, Signing, SungAt, Parts, noteFrom, Closed, TailAt};
 
-// A note of one pitch or a rest, whether L and J stand in its token, and where the token ends.
+// A note of one pitch or a rest, whether L and J and odd marks stand in its token, and where the token ends.
 pub struct Plain {
     pub note: Note,
     pub tone: Tone,
     pub starts: bool,
     pub ends: bool,
+    pub odd: bool,
     pub end: usize,
 }
 
@@ -44,6 +45,7 @@ struct Marked {
     starts: bool,
     ends: bool,
     articulations: usize,
+    odd: bool,
     end: usize,
 }
 
@@ -102,6 +104,19 @@ fn openings(line: &[u8], from: usize) -> Opening
     }
 }
 
+// Whether a byte is an odd mark.
+fn is_odd(b: u8) -> bool
+    ensures { λ r. ⌜ (r ≡ true → contains b oddBytes ≡ true) ⌝ }
+{
+    if b < 33 {
+        return false;
+    }
+    if 126 < b {
+        return false;
+    }
+    token::scan::is_odd(b)
+}
+
 // The marks from an index on, behind the opening ones.
 fn marks(line: &[u8], from: usize, tying: bool, slurring: bool) -> Marked
     requires { ⌜ from ≤ length (now line) ⌝ }
@@ -114,6 +129,7 @@ fn marks(line: &[u8], from: usize, tying: bool, slurring: bool) -> Marked
     let mut starts = false;
     let mut ends = false;
     let mut articulations: usize = 0;
+    let mut odd = false;
     let mut i = from;
     while i < line.len() {
         let b = line[i];
@@ -158,6 +174,11 @@ fn marks(line: &[u8], from: usize, tying: bool, slurring: bool) -> Marked
             i += 1;
             continue;
         }
+        if is_odd(b) {
+            odd = true;
+            i += 1;
+            continue;
+        }
         return Marked {
             ties,
             tied,
@@ -166,6 +187,7 @@ fn marks(line: &[u8], from: usize, tying: bool, slurring: bool) -> Marked
             starts,
             ends,
             articulations,
+            odd,
             end: i,
         };
     }
@@ -177,6 +199,7 @@ fn marks(line: &[u8], from: usize, tying: bool, slurring: bool) -> Marked
         starts,
         ends,
         articulations,
+        odd,
         end: i,
     }
 }
@@ -396,6 +419,7 @@ fn sounded(line: &[u8], from: usize, opening: Opening, v: Valued, dots: u8) -> S
             tone,
             starts: m.starts,
             ends: m.ends,
+            odd: m.odd,
             end: m.end,
         });
     }

@@ -20,7 +20,7 @@ use Rattle.sheet.specs.Record.{spanOf}
 use Rattle.reading.specs.State.{State, Step, goes, ends}
 use Rattle.reading.specs.Notices.{placed, notify}
 use Rattle.reading.specs.Header.{readReference, readHeader}
-use Rattle.reading.specs.Records.{noticeRepair, byKind, byRepair, onRow, onRecord, byLine, readLine}
+use Rattle.reading.specs.Records.{noticeRepair, byKind, byRepair, onRow, onRecord, byLine, isRecord, readLine}
 use Rattle.state.specs.declared.Tally.{Tally}
 use Rattle.state.specs.declared.Step.{Step as StepTold}
 use Rattle.state.specs.declared.Step.the-variants.{Refused, Goes, Ends}
@@ -108,6 +108,9 @@ module _ {row parts : List ℕ} {t : Tally} (h : Under row parts t) (line out : 
         (ap (λ (y : Step). landed y out (t .at))
         (by-found ∙ ap (λ (y : Repaired). byRepair y number offset line (placed offset (repaired (t .active) (tokensOf line))) st) e))
 
+unrecorded : false ≡ true → ⊥
+unrecorded e = let z : _≡_ {A = ℕ} 0 1 = cc in omega arith
+
 -- ---- the header, or a record behind it
 module _ (begun : Bool) (x : Landed) (line out cells parts : List ℕ) (t : Tally) (number offset : ℕ) where
   pub behind-header : begun ≡ true → x ≡ landed (onRow (rowOf cells) number offset line (stateOf cells parts t)) out (t .at)
@@ -134,14 +137,31 @@ module _ (begun : Bool) (x : Landed) (line out cells parts : List ℕ) (t : Tall
         → x ≡ landed (readLine begun number offset line (stateOf cells parts t)) out (t .at)
     reference-line e so = so ∙ sym (ap (λ (y : Step). landed y out (t .at)) (by-kind Reference e))
 
-    pub star-line : kind ≡ Star → x ≡ landed (onRecord begun number offset line (stateOf cells parts t)) out (t .at)
+    star-line : kind ≡ Star → x ≡ landed (onRecord begun number offset line (stateOf cells parts t)) out (t .at)
         → x ≡ landed (readLine begun number offset line (stateOf cells parts t)) out (t .at)
     star-line e so = so ∙ sym (ap (λ (y : Step). landed y out (t .at)) (by-kind Star e))
 
-    pub bar-line : kind ≡ Bar → x ≡ landed (onRecord begun number offset line (stateOf cells parts t)) out (t .at)
+    bar-line : kind ≡ Bar → x ≡ landed (onRecord begun number offset line (stateOf cells parts t)) out (t .at)
         → x ≡ landed (readLine begun number offset line (stateOf cells parts t)) out (t .at)
     bar-line e so = so ∙ sym (ap (λ (y : Step). landed y out (t .at)) (by-kind Bar e))
 
-    pub data-line : kind ≡ Data → x ≡ landed (onRecord begun number offset line (stateOf cells parts t)) out (t .at)
+    data-line : kind ≡ Data → x ≡ landed (onRecord begun number offset line (stateOf cells parts t)) out (t .at)
         → x ≡ landed (readLine begun number offset line (stateOf cells parts t)) out (t .at)
     data-line e so = so ∙ sym (ap (λ (y : Step). landed y out (t .at)) (by-kind Data e))
+
+    -- a record of whatever kind
+    pub record-line : isRecord kind ≡ true → x ≡ landed (onRecord begun number offset line (stateOf cells parts t)) out (t .at)
+        → x ≡ landed (readLine begun number offset line (stateOf cells parts t)) out (t .at)
+    record-line r so = go kind refl r
+      where
+        go : (k : Kind) → kind ≡ k → isRecord k ≡ true → x ≡ landed (readLine begun number offset line (stateOf cells parts t)) out (t .at)
+        go Empty e q = absurd (unrecorded q)
+        go Reference e q = absurd (unrecorded q)
+        go Comment e q = absurd (unrecorded q)
+        go Star e q = star-line e so
+        go Bar e q = bar-line e so
+        go Data e q = data-line e so
+
+-- a line that is no record is of no record's kind
+pub no-record : {b : Bool} (kind k : Kind) → b ≡ isRecord kind → b ≡ false → kind ≡ k → isRecord k ≡ true → ⊥
+no-record kind k r f e q = unrecorded (sym f ∙ r ∙ ap isRecord e ∙ q)

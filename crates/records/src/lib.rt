@@ -56,13 +56,10 @@ fn notice_repair(
     writing::notify(out, tally, n, number, 0, offset, line.len() as u32)
 }
 
-// Whether the header has been met once a line of some kind is read.
-pub fn begun_after(begun: bool, kind: Kind) -> bool
-    ensures { λ r. ⌜ r ≡ (begun || isRecord kind) ⌝ }
+// Whether a line of some kind is a record: neither empty nor begun by `!`.
+fn is_record(kind: Kind) -> bool
+    ensures { λ r. ⌜ r ≡ isRecord kind ⌝ }
 {
-    if begun {
-        return true;
-    }
     match kind {
         Kind::Empty => false,
         Kind::Reference => false,
@@ -71,6 +68,16 @@ pub fn begun_after(begun: bool, kind: Kind) -> bool
         Kind::Bar => true,
         Kind::Data => true,
     }
+}
+
+// Whether the header has been met once a line of some kind is read.
+pub fn begun_after(begun: bool, kind: Kind) -> bool
+    ensures { λ r. ⌜ r ≡ (begun || isRecord kind) ⌝ }
+{
+    if begun {
+        return true;
+    }
+    is_record(kind)
 }
 
 // The counts with so many active spines.
@@ -248,6 +255,21 @@ pub fn read_line(
     requires { ⌜ Here (now line) (now row) (now parts) tally number offset × (kind ≡ kindOf (now line)) ⌝ }
     ensures { λ r. ⌜ toldRow r (now (row .exit)) (now (parts .exit)) (now (out .exit)) ≡ landed (readLine begun number offset (now (line .entry)) (stateOf (take (tally .active) (now (row .entry))) (now (parts .entry)) tally)) (now (out .entry)) (tally .at) ⌝ }
 {
+    if is_record(kind) {
+        return on_record(
+            begun,
+            line,
+            kind,
+            row,
+            new,
+            masks,
+            parts,
+            tally,
+            number,
+            offset,
+            out,
+        );
+    }
     let active = tally.active;
     match kind {
         Kind::Empty => Step::Goes(tally),
@@ -256,44 +278,8 @@ pub fn read_line(
             let set = header::read_reference(line, number, offset, tally, out);
             Step::Goes(with_active(set, active))
         }
-        Kind::Star => on_record(
-            begun,
-            line,
-            kind,
-            row,
-            new,
-            masks,
-            parts,
-            tally,
-            number,
-            offset,
-            out,
-        ),
-        Kind::Bar => on_record(
-            begun,
-            line,
-            kind,
-            row,
-            new,
-            masks,
-            parts,
-            tally,
-            number,
-            offset,
-            out,
-        ),
-        Kind::Data => on_record(
-            begun,
-            line,
-            kind,
-            row,
-            new,
-            masks,
-            parts,
-            tally,
-            number,
-            offset,
-            out,
-        ),
+        Kind::Star => Step::Goes(tally),
+        Kind::Bar => Step::Goes(tally),
+        Kind::Data => Step::Goes(tally),
     }
 }

@@ -1,16 +1,16 @@
 -- The loops that search a slice and count in it: what each keeps, and the turn that keeps it.
 use mathlib.Core.Path.{_≡_, refl, ap, subst}
-use mathlib.Core.Bool.{Bool, true, false}
+use mathlib.Core.Bool.{Bool, true, false, cond}
 use Prim.Native.Nat.{ℕ, zero, suc, min, _+_, _-_, _≤_, _<_}
 use native.Mathlib.Nat.{not-suc-le-zero, le-of-suc-le-suc, add-zero}
 use native.Mathlib.Omega.{arith}
 use mathlib.Core.List.{List}
 use lib.Bits.{bitOr, or-add-and, and-le-l, and-le-r}
-use lib.Dec.{ltb}
+use lib.Dec.{eqb, ltb}
 use lib.ListN.{length, drop, getD}
-use borrow.Author.Tests.{ltb-true, ltb-false}
-use Rattle.slices.specs.Split.{split, indexOf, Without}
-use Rattle.slices.proofs.SplitLaws.{find-here, find-on, find-end, count-here, count-on, count-end}
+use borrow.Author.Tests.{eq-eqb, ltb-true, ltb-false}
+use Rattle.slices.specs.Split.{split, indexOf, Without, Hits}
+use Rattle.slices.proofs.SplitLaws.{find-here, find-on, find-end, count-at, count-end}
 
 pub record Find (s : List ℕ) (b i : ℕ) : Type 0 where
   pub high : i ≤ length s
@@ -59,6 +59,10 @@ none-one : (b : ℕ) (s : List ℕ) (i : ℕ) → (getD s i 0 ≡ b → ⊥) →
 none-one b s i h zero l = rw add-zero h
 none-one b s i h (suc k) l = absurd (not-suc-le-zero (le-of-suc-le-suc l))
 
+-- what `equal` answers where two bytes differ
+pub unequal : {r a b : ℕ} → r ≡ cond (eqb a b) 1 0 → r ≡ 0 → a ≡ b → ⊥
+unequal {r} {a} {b} e z q = let one : r ≡ 1 = rw (eq-eqb a b q) at e in absurd (not-suc-le-zero {n = 0} (omega arith))
+
 pub none-four : (b : ℕ) (s : List ℕ) (i : ℕ) {w x y z : ℕ} → (w ≡ 0 → getD s i 0 ≡ b → ⊥) → (x ≡ 0 → getD s (i + 1) 0 ≡ b → ⊥)
     → (y ≡ 0 → getD s (i + 2) 0 ≡ b → ⊥) → (z ≡ 0 → getD s (i + 3) 0 ≡ b → ⊥) → bitOr (bitOr (bitOr w x) y) z ≡ 0 → None b s i 4
 none-four b s i {w} {x} {y} {z} fw fx fy fz h =
@@ -102,20 +106,25 @@ module _ {b : ℕ} {s : List ℕ} {from i : ℕ} (inv : Without b s from i) wher
   pub without-past : length s ≤ i → (i ≡ from + indexOf b (drop from s)) × (i ≤ length s)
   without-past h = omega (arith, inv .low, inv .high, inv .same, find-end b i s h)
 
-pub record Count (s : List ℕ) (b n i : ℕ) : Type 0 where
-  pub low : n ≤ i
-  pub high : i ≤ length s
-  pub same : length (split b s) ≡ n + length (split b (drop i s))
+-- ---- counting
+pub hits-first : {b : ℕ} {s : List ℕ} {from : ℕ} → from ≤ length s → Hits b s from from 0
+hits-first h = record { low = omega arith; high = h; most = omega arith; same = omega arith }
 
-pub count-first : {s : List ℕ} {b : ℕ} → Count s b 0 0
-count-first = record { low = omega arith; high = omega arith; same = omega arith }
+pub hits-one : {b : ℕ} {s : List ℕ} {i r : ℕ} → i < length s → (r ≡ cond (eqb (getD s i 0) b) 1 0) × (r ≤ 1) → Hits b s i (i + 1) r
+hits-one {b} {s} {i} h e = record { low = omega arith; high = omega arith; most = omega arith; same = omega (arith, count-at b i s h) }
 
-module _ {s : List ℕ} {b n i : ℕ} (inv : Count s b n i) where
-  pub count-hit : i < length s → getD s i 0 ≡ b → Count s b (n + 1) (i + 1)
-  count-hit h here = record { low = omega arith; high = omega arith; same = omega (arith, count-here b i s h here) }
+-- one part behind the other
+pub hits-on : {b : ℕ} {s : List ℕ} {i j k l n m r : ℕ} → Hits b s i j n → Hits b s j k m → k ≡ l → n + m ≡ r → Hits b s i l r
+hits-on {b} {s} p q e sum =
+    record {
+      low = omega (arith, p .low, q .low);
+      high = omega (arith, q .high);
+      most = omega (arith, p .low, q .low, p .most, q .most);
+      same = omega (arith, p .same, q .same, ap (λ (x : ℕ). length (split b (drop x s))) e);
+    }
 
-  pub count-miss : i < length s → (getD s i 0 ≡ b → ⊥) → Count s b n (i + 1)
-  count-miss h not-here = record { low = omega arith; high = omega arith; same = omega (arith, count-on b i s h not-here) }
+pub hits-past : {b : ℕ} {s : List ℕ} {from i n : ℕ} → Hits b s from i n → length s ≤ i → Hits b s from (length s) n
+hits-past {b} {s} {from} {i} {n} p h = let e : i ≡ length s = omega (arith, p .high) in subst (λ (j : ℕ). Hits b s from j n) e p
 
-  pub count-past : length s ≤ i → (n + 1 ≡ length (split b s)) × (n + 1 ≤ length s + 1)
-  count-past h = omega (arith, count-end b i s h)
+pub hits-all : {b : ℕ} {s : List ℕ} {n : ℕ} → Hits b s 0 (length s) n → (n + 1 ≡ length (split b s)) × (n + 1 ≤ length s + 1)
+hits-all {b} {s} p = omega (arith, p .most, p .same, count-end b (length s) s (omega arith))

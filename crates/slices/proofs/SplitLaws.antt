@@ -105,11 +105,8 @@ module _ (b i : ℕ) (xs : List ℕ) where
   pub find-end : length xs ≤ i → indexOf b (drop i xs) ≡ 0
   find-end h = ap (indexOf b) (drop-of-length-le xs h) ∙ index-none b
 
-  pub count-here : i < length xs → getD xs i 0 ≡ b → length (split b (drop i xs)) ≡ 1 + length (split b (drop (i + 1) xs))
-  count-here h e = ap (λ (l : List ℕ). length (split b l)) (at-index xs i h) ∙ rw (count-more, eq-eqb _ _ e)
-
-  pub count-on : i < length xs → (getD xs i 0 ≡ b → ⊥) → length (split b (drop i xs)) ≡ 0 + length (split b (drop (i + 1) xs))
-  count-on h e = ap (λ (l : List ℕ). length (split b l)) (at-index xs i h) ∙ rw (count-more, ne-eqb _ _ e)
+  pub count-at : i < length xs → length (split b (drop i xs)) ≡ cond (eqb (getD xs i 0) b) 1 0 + length (split b (drop (i + 1) xs))
+  count-at h = ap (λ (l : List ℕ). length (split b l)) (at-index xs i h) ∙ count-more b (getD xs i 0) (drop (i + 1) xs)
 
   pub count-end : length xs ≤ i → length (split b (drop i xs)) ≡ 1
   count-end h = ap (λ (l : List ℕ). length (split b l)) (drop-of-length-le xs h) ∙ count-none b

@@ -1,14 +1,16 @@
 // Slices of bytes: searched, compared, and written at their start.
 ghost use mathlib.Core.Path.{_≡_};
+ghost use mathlib.Core.Bool.{cond};
 ghost use Prim.Native.Nat.{ℕ, min, _+_, _≤_, _<_};
+ghost use lib.Dec.{eqb};
 ghost use lib.ListN.{length, drop, getD};
-ghost use Rattle.slices.specs.Split.{split, indexOf, pieceAt, Without};
+ghost use Rattle.slices.specs.Split.{split, indexOf, pieceAt, Without, Hits};
 ghost use Rattle.slices.specs.Compare.{sameBytes, beginsWith};
 ghost use Rattle.slices.specs.Store.{stored};
 
 // 0 where two bytes differ, else 1.
 fn equal(a: u8, b: u8) -> u8
-    ensures { λ r. ⌜ (r ≡ 0 → a ≡ b → ⊥) ⌝ }
+    ensures { λ r. ⌜ (r ≡ cond (eqb a b) 1 0) × (r ≤ 1) ⌝ }
 {
     if a == b {
         return 1;
@@ -127,19 +129,82 @@ pub fn find_far(s: &[u8], b: u8) -> usize
     find_from(s, b, 40)
 }
 
-// How many pieces s has between the bytes b.
+// How many of the 4 bytes from i on are b.
+fn sum_4(s: &[u8], b: u8, i: usize) -> u8
+    requires { ⌜ i + 4 ≤ length (now s) ⌝ }
+    ensures { λ r. ⌜ Hits b (now (s .entry)) i (i + 4) r ⌝ }
+{
+    equal(s[i], b) + equal(s[i + 1], b) + equal(s[i + 2], b) + equal(s[i + 3], b)
+}
+
+// How many of the 8 bytes from i on are b.
+fn sum_8(s: &[u8], b: u8, i: usize) -> u8
+    requires { ⌜ i + 8 ≤ length (now s) ⌝ }
+    ensures { λ r. ⌜ Hits b (now (s .entry)) i (i + 8) r ⌝ }
+{
+    sum_4(s, b, i) + sum_4(s, b, i + 4)
+}
+
+// How many of the 16 bytes from i on are b.
+fn sum_16(s: &[u8], b: u8, i: usize) -> u8
+    requires { ⌜ i + 16 ≤ length (now s) ⌝ }
+    ensures { λ r. ⌜ Hits b (now (s .entry)) i (i + 16) r ⌝ }
+{
+    sum_8(s, b, i) + sum_8(s, b, i + 8)
+}
+
+// How many bytes from `from` on are b.
+fn hits(s: &[u8], b: u8, from: usize) -> usize
+    requires { ⌜ from ≤ length (now s) ⌝ }
+    ensures { λ r. ⌜ Hits b (now (s .entry)) from (length (now (s .entry))) r ⌝ }
+{
+    let mut n: usize = 0;
+    let mut i = from;
+    while i < s.len() {
+        n += equal(s[i], b) as usize;
+        i += 1;
+    }
+    n
+}
+
+// The same, the first 4 bytes at once.
+fn hits_4(s: &[u8], b: u8, from: usize) -> usize
+    requires { ⌜ from ≤ length (now s) ⌝ }
+    ensures { λ r. ⌜ Hits b (now (s .entry)) from (length (now (s .entry))) r ⌝ }
+{
+    if s.len() - from < 4 {
+        return hits(s, b, from);
+    }
+    sum_4(s, b, from) as usize + hits(s, b, from + 4)
+}
+
+// The same, the first 8 bytes at once.
+fn hits_8(s: &[u8], b: u8, from: usize) -> usize
+    requires { ⌜ from ≤ length (now s) ⌝ }
+    ensures { λ r. ⌜ Hits b (now (s .entry)) from (length (now (s .entry))) r ⌝ }
+{
+    if s.len() - from < 8 {
+        return hits_4(s, b, from);
+    }
+    sum_8(s, b, from) as usize + hits_4(s, b, from + 8)
+}
+
+// How many pieces s has between the bytes b: blocks of 16 summed in a byte m, which goes to n before it is full.
 pub fn count(s: &[u8], b: u8) -> usize
     ensures { λ r. ⌜ (r ≡ length (split b (now (s .entry)))) × (r ≤ length (now (s .entry)) + 1) ⌝ }
 {
     let mut n: usize = 0;
+    let mut m: u8 = 0;
     let mut i = 0;
-    while i < s.len() {
-        if s[i] == b {
-            n += 1;
+    while 16 <= s.len() - i {
+        if 239 < m {
+            n += m as usize;
+            m = 0;
         }
-        i += 1;
+        m += sum_16(s, b, i);
+        i += 16;
     }
-    n + 1
+    n + m as usize + hits_8(s, b, i) + 1
 }
 
 // The piece of s that a span, an offset and a length, names; it ends where s ends.

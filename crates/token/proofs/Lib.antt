@@ -6,6 +6,7 @@ pub mod SoundLaws
 pub mod MarkLaws
 pub mod PassLaws
 pub mod ScanLaws
+pub mod OddLaws
 pub mod FewLaws
 pub mod OutcomeLaws
 pub mod AccountLaws

@@ -1,9 +1,10 @@
 -- What one pass over a token collects, and how it goes on by an item.
-use Prim.Native.Nat.{ℕ, _+_}
+use mathlib.Core.Path.{_≡_}
+use Prim.Native.Nat.{ℕ, _+_, _≤_, _<_}
 use mathlib.Core.List.{List}
 use mathlib.Core.Bool.{Bool, true, false, cond, not, _||_}
 use lib.Dec.{eqb, ltb}
-use lib.ListN.{length}
+use lib.ListN.{length, getD}
 use Rattle.slices.specs.Ascii.{ascii}
 use Rattle.notation.specs.Search.{contains}
 use Rattle.pitch.specs.Pitch.{pitchOf}
@@ -18,7 +19,7 @@ use Rattle.token.specs.declared.scan.Lengths.{Lengths}
 use Rattle.token.specs.declared.scan.First.{First}
 use Rattle.token.specs.declared.scan.Sounds.{Sounds}
 use Rattle.token.specs.declared.scan.Marks.{Marks}
-use Rattle.token.specs.Token.{badLength, firstSub, isSilent, givenIn, dotsOf, restOf, marks, anyOf, graceBy, graceFrom, articulation, articulationsOf, fits, passes, pitchesOf, signifiersOf}
+use Rattle.token.specs.Token.{badLength, firstSub, isSilent, givenIn, dotsOf, restOf, marks, anyOf, graceBy, graceFrom, articulation, articulationsOf, fits, passes, isOdd, pitchesOf, signifiersOf}
 
 -- the aspects of a token: "tie start, tie end, slur start, slur end" are `ties`, `tied`, `slurs`, `slurred`
 unfoldable pub scanItems : List Item → Scan
@@ -41,6 +42,12 @@ scanItems is =
 
 abbrev pub scanOf : List ℕ → Scan
 scanOf token = scanItems (items token)
+
+-- from one index to another there are only marks that say nothing
+pub record Odds (token : List ℕ) (from end : ℕ) : Type 0 where
+  pub on : from < end
+  pub high : end ≤ length token
+  pub odd : (j : ℕ) → from ≤ j → j < end → isOdd (getD token j 0) ≡ true
 
 -- ---- one item more
 abbrev pub stepLengths : Lengths → Item → Lengths
@@ -69,17 +76,17 @@ stepFirst f (Letters c n) = cond (f .over) f (insideFirst (f .given) (f .dots) (
 stepFirst f Blank = endedFirst f
 stepFirst f (Mark b) = cond (f .over) f (insideFirst (f .given) (dotsBy (f .dots) b) (f .rest || eqb b 114))
 
-abbrev pub oddly : Sounds → Sounds
-oddly s = record { sounding = s .sounding; pitches = s .pitches; signifiers = s .signifiers + 1 }
+abbrev pub oddly : Sounds → ℕ → Sounds
+oddly s n = record { sounding = s .sounding; pitches = s .pitches; signifiers = s .signifiers + n }
 
 abbrev pub sounded : Sounds → Sounds
 sounded s = record { sounding = true; pitches = s .pitches + 1; signifiers = s .signifiers }
 
 abbrev pub stepSounds : Sounds → Item → Sounds
 stepSounds s (Digits v) = s
-stepSounds s (Letters c n) = cond (fits (s .sounding) (pitchOf c n)) (sounded s) (oddly s)
+stepSounds s (Letters c n) = cond (fits (s .sounding) (pitchOf c n)) (sounded s) (oddly s 1)
 stepSounds s Blank = record { sounding = false; pitches = s .pitches; signifiers = s .signifiers }
-stepSounds s (Mark b) = cond (passes (s .sounding) b) s (oddly s)
+stepSounds s (Mark b) = cond (passes (s .sounding) b) s (oddly s 1)
 
 abbrev pub stepMarks : Marks → Item → Marks
 stepMarks m (Digits v) = m

@@ -1,13 +1,14 @@
 -- What a token says, aspect by aspect, over its items. A blank ends a sub-token; empty sub-tokens are passed over.
 use Prim.Native.Nat.{ℕ, zero, _+_, min}
 use mathlib.Core.List.{List, [], _∷_, _++_}
-use mathlib.Core.Bool.{Bool, true, false, cond, _&&_, _||_}
+use mathlib.Core.Bool.{Bool, true, false, cond, not, _&&_, _||_}
 use lib.Dec.{eqb, ltb}
 use Rattle.slices.specs.Ascii.{ascii}
 use Rattle.notation.specs.Search.{contains}
 use Rattle.pitch.specs.Pitch.{pitchOf, alteredBy}
 use Rattle.pitch.specs.declared.Pitch.{Pitch}
 use Rattle.pitch.specs.declared.Pitch.the-variants.{At, Outside}
+use Rattle.items.specs.Items.{isDigit, isLetter}
 use Rattle.items.specs.declared.Item.{Item}
 use Rattle.items.specs.declared.Item.the-variants.{Digits, Letters, Blank, Mark}
 use Rattle.token.specs.declared.scan.Given.{Given}
@@ -147,6 +148,10 @@ known = ascii ".r[]_()LJqQ'^~;Tt"
 -- whether a mark is imported: a sign where its sub-token has a pitch, or a mark with a meaning
 unfoldable pub passes : Bool → ℕ → Bool
 passes sounding b = cond (contains b signs) sounding (contains b known)
+
+-- whether a byte is a mark that says nothing
+unfoldable pub isOdd : ℕ → Bool
+isOdd b = not (isDigit b || isLetter b || contains b (ascii " %") || contains b signs || contains b known)
 
 -- "17 signifiers": letters of runs that are no pitch, once each, and marks that are not imported; `sounding` says that the
 -- sub-token has a pitch

@@ -3,14 +3,15 @@ use duration::Value;
 use items::Item;
 use pitch::Pitch;
 ghost use mathlib.Core.Path.{_≡_};
-ghost use mathlib.Core.Bool.{cond, _||_};
-ghost use Prim.Native.Nat.{_+_, _<_};
+ghost use mathlib.Core.Bool.{true, cond, _||_};
+ghost use Prim.Native.Nat.{_+_, _≤_, _<_};
 ghost use lib.Dec.{eqb, ltb};
+ghost use lib.ListN.{length, getD};
 ghost use mathlib.Core.List.{[], _∷_};
 ghost use Rattle.notation.specs.Search.{contains};
 ghost use Rattle.pitch.specs.Pitch.{pitchOf};
-ghost use Rattle.token.specs.Token.{fits, signs, known, passes, graceBy, articulation};
-ghost use Rattle.token.specs.Scan.{scanOf, stepLengths, orGiven, dotsBy, insideFirst, endedFirst, stepFirst, stepSounds, stepMarks, oddly, noFirst, noMarks, collected};
+ghost use Rattle.token.specs.Token.{fits, signs, known, passes, isOdd, graceBy, articulation};
+ghost use Rattle.token.specs.Scan.{scanOf, Odds, stepLengths, orGiven, dotsBy, insideFirst, endedFirst, stepFirst, stepSounds, stepMarks, oddly, noFirst, noMarks, collected};
 
 // The value of the first sub-token's digits.
 pub enum Given {
@@ -261,6 +262,40 @@ pub fn is_sign(b: u8) -> bool
     false
 }
 
+// The bytes that say nothing, a bit each: those below 64, and those from 64 to 127.
+const LOW_ODD: u64 = 0xF4009C56FFFFFFFF;
+
+const HIGH_ODD: u64 = 0xBFE9BF0117EDEB01;
+
+// Whether a byte is a mark that says nothing.
+pub fn is_odd(b: u8) -> bool
+    ensures { λ r. ⌜ r ≡ isOdd b ⌝ }
+{
+    if b < 64 {
+        return (LOW_ODD >> b) & 1 == 1;
+    }
+    if b < 128 {
+        return (HIGH_ODD >> (b - 64)) & 1 == 1;
+    }
+    true
+}
+
+// The end of the marks that say nothing and begin at an index.
+pub fn odd_end(token: &[u8], from: usize) -> usize
+    requires { ⌜ (from < length (now token)) × (isOdd (getD (now token) from 0) ≡ true) ⌝ }
+    ensures { λ r. ⌜ Odds (now (token .entry)) from r ⌝ }
+{
+    let mut e = from + 1;
+    while e < token.len() {
+        if is_odd(token[e]) {
+            e += 1;
+        } else {
+            return e;
+        }
+    }
+    e
+}
+
 // Whether a mark is imported.
 pub fn passes(sounding: bool, b: u8) -> bool
     ensures { λ r. ⌜ r ≡ passes sounding b ⌝ }
@@ -271,15 +306,15 @@ pub fn passes(sounding: bool, b: u8) -> bool
     known(b)
 }
 
-// One signifier more.
-fn oddly(s: Sounds) -> Sounds
-    requires { ⌜ s .signifiers < 18446744073709551615 ⌝ }
-    ensures { λ r. ⌜ r ≡ oddly s ⌝ }
+// Some signifiers more.
+fn oddly(s: Sounds, n: usize) -> Sounds
+    requires { ⌜ s .signifiers + n ≤ 18446744073709551615 ⌝ }
+    ensures { λ r. ⌜ r ≡ oddly s n ⌝ }
 {
     Sounds {
         sounding: s.sounding,
         pitches: s.pitches,
-        signifiers: s.signifiers + 1,
+        signifiers: s.signifiers + n,
     }
 }
 
@@ -300,7 +335,7 @@ fn step_sounds(s: Sounds, item: Item) -> Sounds
                     signifiers: s.signifiers,
                 };
             }
-            return oddly(s);
+            return oddly(s, 1);
         }
         Item::Blank => {
             return Sounds {
@@ -313,7 +348,7 @@ fn step_sounds(s: Sounds, item: Item) -> Sounds
             if passes(s.sounding, b) {
                 return s;
             }
-            return oddly(s);
+            return oddly(s, 1);
         }
     }
 }
@@ -495,6 +530,14 @@ pub fn scan_token(token: &[u8]) -> Scan
             continue;
         }
         let item = Item::Mark(b);
+        if is_odd(b) {
+            let end = odd_end(token, i);
+            lengths = step_lengths(lengths, item);
+            first = step_first(first, item);
+            sounds = oddly(sounds, end - i);
+            i = end;
+            continue;
+        }
         lengths = step_lengths(lengths, item);
         first = step_first(first, item);
         sounds = step_sounds(sounds, item);

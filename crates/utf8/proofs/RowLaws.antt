@@ -43,9 +43,17 @@ module _ (r : Range) (s : List ℕ) (i : ℕ) where
       go [] = refl
       go (b ∷ l) = and-then (leb (r .0) b && leb b (r .1)) (begins rs l)
 
--- ---- the loop of `rest`: the tails from i on decide
 abbrev tail : Range
 tail = (0x80, 0xBF)
+
+-- a lead and two tails
+pub begins-three : (r : Range) (s : List ℕ) (i : ℕ)
+    → begins (r ∷ tails 2) (drop i s) ≡ (begins (r ∷ []) (drop i s) && (begins (tails 1) (drop (i + 1) s) && begins (tails 1) (drop (i + 2) s)))
+begins-three r s i =
+    let e : i + 1 + 1 ≡ i + 2 = omega arith in
+    begins-split r s i (tails 2) ∙ rw (begins-split tail s (i + 1) (tails 1), e)
+
+-- ---- the loop of `rest`: the tails from i on decide
 
 pub record Rest (s : List ℕ) (n i : ℕ) : Type 0 where
   pub low : 2 ≤ i

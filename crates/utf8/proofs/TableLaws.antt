@@ -6,7 +6,7 @@ use Prim.Native.Nat.{ℕ, suc, _≤_, _<_}
 use native.Mathlib.Nat.{not-suc-le-zero}
 use native.Mathlib.Omega.{arith}
 use lib.Dec.{leb}
-use lib.ListN.{length, take, drop}
+use lib.ListN.{length, take, drop, take-append-drop}
 use borrow.Author.Tests.{le-leb, lt-leb, leb-true, leb-false}
 use Rattle.utf8.specs.Utf8.{Range, table, begins, firstOf, charLength}
 use Rattle.utf8.specs.WellFormed.{Spells, none, byte}
@@ -131,6 +131,12 @@ unfolding begins
 begins-fits [] s e = omega arith
 begins-fits (r ∷ rs) [] e = absurd (false≢true e)
 begins-fits (r ∷ rs) (b ∷ s) e = let h : length rs ≤ length s = begins-fits rs s (begins-both r b rs s e .1 .1) in omega arith
+
+-- a row that a text begins with is its character
+pub char-begins : {row : List Range} → List·Memᴰ row table → (s : List ℕ) → begins row s ≡ true → charLength s ≡ length row
+char-begins {row} m s e =
+    let spelled : Spells row (take (length row) s) = begins-spells row s e in
+    ap charLength (sym (take-append-drop (length row) s)) ∙ char-of m spelled (drop (length row) s) ∙ spells-length spelled
 
 -- the row that stands at the front of a text, of n bytes
 pub record Front (rows : List (List Range)) (s : List ℕ) (n : ℕ) : Type 0 where

@@ -144,56 +144,92 @@ fn blocks_64(s: &[u8], from: usize) -> usize
     i
 }
 
-// Where the blocks of 16 bytes below 128 from `from` on end; behind the first, blocks of 64.
-fn blocks(s: &[u8], from: usize) -> usize
+// Whether a character of two bytes stands at i.
+fn two(s: &[u8], i: usize) -> bool
+    requires { ⌜ i ≤ length (now s) ⌝ }
+    ensures { λ r. ⌜ r ≡ begins ((0xC2, 0xDF) ∷ tails 1) (drop i (now (s .entry))) ⌝ }
+{
+    if !between(s, i, 0xC2, 0xDF) {
+        return false;
+    }
+    between(s, i + 1, 0x80, 0xBF)
+}
+
+// Whether a character of three bytes, led by E1 to EC, stands at i.
+fn three(s: &[u8], i: usize) -> bool
+    requires { ⌜ i ≤ length (now s) ⌝ }
+    ensures { λ r. ⌜ r ≡ begins ((0xE1, 0xEC) ∷ tails 2) (drop i (now (s .entry))) ⌝ }
+{
+    if !between(s, i, 0xE1, 0xEC) {
+        return false;
+    }
+    if !between(s, i + 1, 0x80, 0xBF) {
+        return false;
+    }
+    between(s, i + 2, 0x80, 0xBF)
+}
+
+// Where the characters of two bytes from `from` on end.
+fn twos(s: &[u8], from: usize) -> usize
     requires { ⌜ from ≤ length (now s) ⌝ }
     ensures { λ r. ⌜ Passed (now (s .entry)) from r ⌝ }
 {
-    if s.len() - from < 16 {
-        return from;
-    }
-    if 128 <= joined_16(s, from) {
-        return from;
-    }
-    let mut i = blocks_64(s, from + 16);
-    while 16 <= s.len() - i {
-        if 128 <= joined_16(s, i) {
-            return i;
-        }
-        i += 16;
+    let mut i = from;
+    while two(s, i) {
+        i += 2;
     }
     i
 }
 
-// The same where the byte at `from` is below 128, else `from`.
-fn onward(s: &[u8], from: usize) -> usize
+// Where the characters of three bytes, led by E1 to EC, from `from` on end.
+fn threes(s: &[u8], from: usize) -> usize
     requires { ⌜ from ≤ length (now s) ⌝ }
     ensures { λ r. ⌜ Passed (now (s .entry)) from r ⌝ }
 {
-    if from == s.len() {
-        return from;
+    let mut i = from;
+    while three(s, i) {
+        i += 3;
     }
-    if 128 <= s[from] {
-        return from;
+    i
+}
+
+// Where the character at i, or a run that begins with it, ends; i where none stands there.
+fn onward(s: &[u8], i: usize) -> usize
+    requires { ⌜ i < length (now s) ⌝ }
+    ensures { λ r. ⌜ Passed (now (s .entry)) i r × (r ≡ i → utf8Length (drop i (now (s .entry))) ≡ 0) ⌝ }
+{
+    if s.len() - i < 16 {
+        return i + char_length(&s[i..]);
     }
-    blocks(s, from)
+    if s[i] < 128 {
+        if 128 <= joined(s, i) {
+            return i + 1;
+        }
+        if 128 <= joined_16(s, i) {
+            return i + 4;
+        }
+        return blocks_64(s, i + 16);
+    }
+    if two(s, i) {
+        return twos(s, i + 2);
+    }
+    if three(s, i) {
+        return threes(s, i + 3);
+    }
+    i + char_length(&s[i..])
 }
 
 // The length of the longest well-formed part of s from its start.
 pub fn utf8_length(s: &[u8]) -> usize
     ensures { λ r. ⌜ (r ≡ utf8Length (now (s .entry))) × (r ≤ length (now (s .entry))) ⌝ }
 {
-    let mut i = blocks(s, 0);
+    let mut i = 0;
     while i < s.len() {
-        let n = char_length(&s[i..]);
-        if n == 0 {
+        let next = onward(s, i);
+        if next == i {
             return i;
         }
-        if n == 1 {
-            i += 1;
-        } else {
-            i = onward(s, i + n);
-        }
+        i = next;
     }
     i
 }

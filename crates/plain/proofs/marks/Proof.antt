@@ -7,17 +7,17 @@ use borrow.Author.Needs.{needs}
 use Rattle.notation.specs.Search.{contains}
 use Rattle.token.specs.Token.{articulation}
 use Rattle.plain.specs.Usual.{opened, Marking}
-use Rattle.plain.proofs.ByteLaws.{mark-turn, small, articulation-mark, said-articulation}
+use Rattle.plain.proofs.ByteLaws.{mark-turn, small, articulation-mark, said-articulation, odd-mark, said-odd}
 use Rattle.plain.proofs.PieceLaws.{carried-first, carried-turn}
 use Rattle.plain.proofs.marks.Statement.{statement}
 use Rattle.plain.proofs.marks.Tie as tie
 
 abbrev Inv-loop : tie.InvT-loop
-Inv-loop line from tying slurring ties₀ tied₀ slurs₀ slurred₀ starts₀ ends₀ articulations₀ i₀ ties tied slurs slurred starts ends articulations i =
-    Marking line from (opened tying slurring) (record { ties = ties; tied = tied; slurs = slurs; slurred = slurred; starts = starts; ends = ends; articulations = articulations }) i × (articulations ≤ i)
+Inv-loop line from tying slurring ties₀ tied₀ slurs₀ slurred₀ starts₀ ends₀ articulations₀ odd₀ i₀ ties tied slurs slurred starts ends articulations odd i =
+    Marking line from (opened tying slurring) (record { ties = ties; tied = tied; slurs = slurs; slurred = slurred; starts = starts; ends = ends; articulations = articulations; odd = odd }) i × (articulations ≤ i)
 
 abbrev μ-loop : tie.MeasureT-loop
-μ-loop line from tying slurring ties₀ tied₀ slurs₀ slurred₀ starts₀ ends₀ articulations₀ i₀ ties tied slurs slurred starts ends articulations i = length line - i
+μ-loop line from tying slurring ties₀ tied₀ slurs₀ slurred₀ starts₀ ends₀ articulations₀ odd₀ i₀ ties tied slurs slurred starts ends articulations odd i = length line - i
 
 loop-holds : tie.Need-loop-holds Inv-loop μ-loop
 loop-holds c = (carried-first (c .before .pre), omega arith)
@@ -110,8 +110,20 @@ loop-less-8 c = search needs
 loop-again-8 : tie.Need-loop-again-8 Inv-loop μ-loop
 loop-again-8 c = (carried-turn (c .before .before .before .before .before .before .before .before .before .before .before .loop .inv .0) (search needs) (articulation-mark _ (small _ _ (c .before .articulation .ensures) (c .if8 .taken))) (said-articulation _ _ (small _ _ (c .before .articulation .ensures) (c .if8 .taken))), omega arith)
 
+is-odd-requires : tie.Need-is-odd-requires Inv-loop μ-loop
+is-odd-requires c κs = search needs
+
+add-i-9 : tie.Need-add-i-9 Inv-loop μ-loop
+add-i-9 c = search needs
+
+loop-less-9 : tie.Need-loop-less-9 Inv-loop μ-loop
+loop-less-9 c = search needs
+
+loop-again-9 : tie.Need-loop-again-9 Inv-loop μ-loop
+loop-again-9 c = (carried-turn (c .before .before .before .before .before .before .before .before .before .before .before .before .before .loop .inv .0) (search needs) (odd-mark _ (c .before .is-odd .ensures (c .if9 .taken))) (said-odd _ _ (c .before .is-odd .ensures (c .if9 .taken))), omega arith)
+
 returns : tie.Need-returns Inv-loop μ-loop
-returns c = c .before .before .before .before .before .before .before .before .before .before .before .loop .inv .0
+returns c = c .before .before .before .before .before .before .before .before .before .before .before .before .before .loop .inv .0
 
 returns-2 : tie.Need-returns-2 Inv-loop μ-loop
 returns-2 c = c .before .loop .inv .0
@@ -150,5 +162,9 @@ marks-spec =
     add-i-8
     loop-less-8
     loop-again-8
+    is-odd-requires
+    add-i-9
+    loop-less-9
+    loop-again-9
     returns
     returns-2)

@@ -31,6 +31,7 @@ returns-2 c = record {
   tone = refl;
   starts = refl;
   ends = refl;
+  odd = refl;
 }
 
 returns-3 : tie.Need-returns-3

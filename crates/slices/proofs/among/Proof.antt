@@ -1,5 +1,5 @@
 -- `among`: four bytes that are not b.
-use Rattle.slices.proofs.SearchLaws.{none-four}
+use Rattle.slices.proofs.SearchLaws.{none-four, unequal}
 use borrow.Author.Needs.{needs}
 use Rattle.slices.proofs.among.Statement.{statement}
 use Rattle.slices.proofs.among.Tie as tie
@@ -38,7 +38,7 @@ equal-requires-4 : tie.Need-equal-requires-4
 equal-requires-4 c κs = search needs
 
 returns : tie.Need-returns
-returns c = none-four (c .before .before .before .before .before .before .before .before .before .args .b) (c .before .before .before .before .before .before .before .before .before .args .s .now) (c .before .before .before .before .before .before .before .before .before .args .i) (c .before .before .before .before .before .before .equal .ensures) (c .before .before .before .before .equal2 .ensures) (c .before .before .equal3 .ensures) (c .equal4 .ensures)
+returns c = none-four (c .before .before .before .before .before .before .before .before .before .args .b) (c .before .before .before .before .before .before .before .before .before .args .s .now) (c .before .before .before .before .before .before .before .before .before .args .i) (unequal (c .before .before .before .before .before .before .equal .ensures .0)) (unequal (c .before .before .before .before .equal2 .ensures .0)) (unequal (c .before .before .equal3 .ensures .0)) (unequal (c .equal4 .ensures .0))
 
 pub among-spec : {M : Type 1} → statement M
 among-spec =

@@ -1,26 +1,37 @@
--- `count` meets its contract. Assumes nothing.
+-- `count`: n and m bytes b stand before i.
 use mathlib.Core.Logic.{⊎-elim}
-use Prim.Native.Nat.{_-_}
+use mathlib.Core.Path.{refl}
+use Prim.Native.Nat.{_+_, _-_, _≤_}
 use native.Mathlib.Omega.{arith}
 use lib.ListN.{length}
-use Rattle.slices.proofs.SearchLaws.{Count, count-first, count-hit, count-miss, count-past}
+use Rattle.slices.specs.Split.{Hits}
+use Rattle.slices.proofs.SearchLaws.{hits-first, hits-on, hits-all}
 use Rattle.slices.proofs.count.Statement.{statement}
 use Rattle.slices.proofs.count.Tie as tie
 
 abbrev Inv-loop : tie.InvT-loop
-Inv-loop s b n₀ i₀ n i = Count s b n i
+Inv-loop s b n₀ m₀ i₀ n m i = Hits b s 0 i (n + m) × (m ≤ 255)
 
 abbrev μ-loop : tie.MeasureT-loop
-μ-loop s b n₀ i₀ n i = length s - i
+μ-loop s b n₀ m₀ i₀ n m i = length s - i
 
 loop-holds : tie.Need-loop-holds Inv-loop μ-loop
-loop-holds c = count-first
+loop-holds c = (hits-first (omega arith), omega arith)
 
-shared-slice-read-if1 : tie.Need-shared-slice-read-if1 Inv-loop μ-loop
-shared-slice-read-if1 c = omega arith
+sub-loop : tie.Need-sub-loop Inv-loop μ-loop
+sub-loop c = omega arith
+
+cast-n : tie.Need-cast-n Inv-loop μ-loop
+cast-n c = omega arith
 
 add-n : tie.Need-add-n Inv-loop μ-loop
 add-n c = omega arith
+
+sum-16-requires : tie.Need-sum-16-requires Inv-loop μ-loop
+sum-16-requires c κs = omega arith
+
+add-m : tie.Need-add-m Inv-loop μ-loop
+add-m c = ⊎-elim (λ w. omega arith) (λ w. omega arith) (c .before .before .if1 .came)
 
 add-i : tie.Need-add-i Inv-loop μ-loop
 add-i c = omega arith
@@ -29,16 +40,25 @@ loop-less : tie.Need-loop-less Inv-loop μ-loop
 loop-less c = omega arith
 
 loop-again : tie.Need-loop-again Inv-loop μ-loop
-loop-again c =
-    ⊎-elim (λ w. rw (w .1) (count-hit (c .before .before .before .loop .inv) (c .before .before .loop-test .taken) (w .0 .taken)))
-    (λ w. rw (w .1) (count-miss (c .before .before .before .loop .inv) (c .before .before .loop-test .taken) (w .0 .left)))
-    (c .if1 .came)
+loop-again c = ⊎-elim (λ w. (hits-on (c .before .before .before .before .loop .inv .0) (c .before .sum-16 .ensures) refl (omega arith), omega arith)) (λ w. (hits-on (c .before .before .before .before .loop .inv .0) (c .before .sum-16 .ensures) refl (omega arith), omega arith)) (c .before .before .if1 .came)
+
+cast-result : tie.Need-cast-result Inv-loop μ-loop
+cast-result c = omega arith
 
 add-result : tie.Need-add-result Inv-loop μ-loop
 add-result c = omega arith
 
+hits-8-requires : tie.Need-hits-8-requires Inv-loop μ-loop
+hits-8-requires c κs = omega arith
+
+add-result-2 : tie.Need-add-result-2 Inv-loop μ-loop
+add-result-2 c = omega arith
+
+add-result-3 : tie.Need-add-result-3 Inv-loop μ-loop
+add-result-3 c = omega arith
+
 returns : tie.Need-returns Inv-loop μ-loop
-returns c = count-past (c .before .loop .inv) (c .loop-test .left)
+returns c = hits-all (hits-on (c .before .before .loop .inv .0) (c .hits-8 .ensures) refl refl)
 
 pub count-spec : {M : Type 1} → statement M
 count-spec =
@@ -47,10 +67,17 @@ count-spec =
     Inv-loop
     μ-loop
     loop-holds
-    shared-slice-read-if1
+    sub-loop
+    cast-n
     add-n
+    sum-16-requires
+    add-m
     add-i
     loop-less
     loop-again
+    cast-result
     add-result
+    hits-8-requires
+    add-result-2
+    add-result-3
     returns)

@@ -6,6 +6,7 @@ use lib.ListN.{length}
 use borrow.Author.Needs.{needs}
 use Rattle.items.proofs.NextLaws.{end-on, next-digits, next-letters, next-blank, next-mark}
 use Rattle.token.proofs.ScanLaws.{Scanning, scan-first, scan-turn, scan-past}
+use Rattle.token.proofs.OddLaws.{scan-run}
 use Rattle.token.proofs.scan.scan_token.Statement.{statement}
 use Rattle.token.proofs.scan.scan_token.Tie as tie
 
@@ -63,8 +64,8 @@ is-letter-requires c κs = search needs
 letter-end-requires : tie.Need-letter-end-requires Inv-loop μ-loop
 letter-end-requires c κs = (c .before .before .before .before .before .loop-test .taken, sym (c .before .is-letter .ensures) ∙ c .if2 .taken)
 
-sub-t24 : tie.Need-sub-t24 Inv-loop μ-loop
-sub-t24 c = omega (arith, c .letter-end .ensures)
+sub-t25 : tie.Need-sub-t25 Inv-loop μ-loop
+sub-t25 c = omega (arith, c .letter-end .ensures)
 
 step-lengths-requires-2 : tie.Need-step-lengths-requires-2 Inv-loop μ-loop
 step-lengths-requires-2 c κs = search needs
@@ -99,26 +100,50 @@ loop-less-3 c = omega (arith, c .before .before .before .before .before .before 
 loop-again-3 : tie.Need-loop-again-3 Inv-loop μ-loop
 loop-again-3 c = scan-turn (c .before .before .before .before .before .before .before .before .before .before .loop .inv) (c .before .before .before .before .before .before .before .before .before .loop-test .taken) (next-blank _ _ (c .before .before .before .before .before .before .before .before .before .loop-test .taken) (c .before .before .before .before .before .before .before .is-digit .ensures) (c .before .before .before .before .before .before .if1 .left) (c .before .before .before .before .before .is-letter .ensures) (c .before .before .before .before .if2 .left) (c .before .before .before .if3 .taken)) (c .before .before .step-lengths3 .ensures) (c .before .step-first3 .ensures) (c .step-sounds2 .ensures) refl
 
+is-odd-requires : tie.Need-is-odd-requires Inv-loop μ-loop
+is-odd-requires c κs = search needs
+
+odd-end-requires : tie.Need-odd-end-requires Inv-loop μ-loop
+odd-end-requires c κs = (c .before .before .before .before .before .before .before .before .loop-test .taken, sym (c .before .is-odd .ensures) ∙ c .if4 .taken)
+
 step-lengths-requires-4 : tie.Need-step-lengths-requires-4 Inv-loop μ-loop
 step-lengths-requires-4 c κs = search needs
 
 step-first-requires-4 : tie.Need-step-first-requires-4 Inv-loop μ-loop
 step-first-requires-4 c κs = search needs
 
-step-sounds-requires-3 : tie.Need-step-sounds-requires-3 Inv-loop μ-loop
-step-sounds-requires-3 c κs = (omega (arith, c .before .before .before .before .before .before .before .before .before .loop .inv .pitches, c .before .before .before .before .before .before .before .before .loop-test .taken), omega (arith, c .before .before .before .before .before .before .before .before .before .loop .inv .signifiers, c .before .before .before .before .before .before .before .before .loop-test .taken))
+sub-oddly : tie.Need-sub-oddly Inv-loop μ-loop
+sub-oddly c = omega (arith, c .before .before .odd-end .ensures .on)
 
-step-marks-requires : tie.Need-step-marks-requires Inv-loop μ-loop
-step-marks-requires c κs = omega (arith, c .before .before .before .before .before .before .before .before .before .before .loop .inv .articulations, c .before .before .before .before .before .before .before .before .before .loop-test .taken)
-
-add-i-2 : tie.Need-add-i-2 Inv-loop μ-loop
-add-i-2 c = omega (arith, c .before .before .before .before .before .before .before .before .before .before .loop-test .taken)
+oddly-requires : tie.Need-oddly-requires Inv-loop μ-loop
+oddly-requires c κs = omega (arith, c .before .before .before .before .before .before .before .before .before .before .before .before .loop .inv .signifiers, c .before .before .odd-end .ensures .on, c .before .before .odd-end .ensures .high)
 
 loop-less-4 : tie.Need-loop-less-4 Inv-loop μ-loop
-loop-less-4 c = omega (arith, c .before .before .before .before .before .before .before .before .before .before .loop-test .taken)
+loop-less-4 c = omega (arith, c .before .before .before .odd-end .ensures .on, c .before .before .before .odd-end .ensures .high)
 
 loop-again-4 : tie.Need-loop-again-4 Inv-loop μ-loop
-loop-again-4 c = scan-turn (c .before .before .before .before .before .before .before .before .before .before .before .loop .inv) (c .before .before .before .before .before .before .before .before .before .before .loop-test .taken) (next-mark _ _ (c .before .before .before .before .before .before .before .before .before .before .loop-test .taken) (c .before .before .before .before .before .before .before .before .is-digit .ensures) (c .before .before .before .before .before .before .before .if1 .left) (c .before .before .before .before .before .before .is-letter .ensures) (c .before .before .before .before .before .if2 .left) (c .before .before .before .before .if3 .left)) (c .before .before .before .step-lengths4 .ensures) (c .before .before .step-first4 .ensures) (c .before .step-sounds3 .ensures) (c .step-marks .ensures)
+loop-again-4 c = rw (c .oddly .ensures) (scan-run _ (c .before .before .before .before .before .before .before .before .before .before .before .before .before .loop .inv) (c .before .before .before .odd-end .ensures) (c .before .before .step-lengths4 .ensures) (c .before .step-first4 .ensures))
+
+step-lengths-requires-5 : tie.Need-step-lengths-requires-5 Inv-loop μ-loop
+step-lengths-requires-5 c κs = search needs
+
+step-first-requires-5 : tie.Need-step-first-requires-5 Inv-loop μ-loop
+step-first-requires-5 c κs = search needs
+
+step-sounds-requires-3 : tie.Need-step-sounds-requires-3 Inv-loop μ-loop
+step-sounds-requires-3 c κs = (omega (arith, c .before .before .before .before .before .before .before .before .before .before .before .loop .inv .pitches, c .before .before .before .before .before .before .before .before .before .before .loop-test .taken), omega (arith, c .before .before .before .before .before .before .before .before .before .before .before .loop .inv .signifiers, c .before .before .before .before .before .before .before .before .before .before .loop-test .taken))
+
+step-marks-requires : tie.Need-step-marks-requires Inv-loop μ-loop
+step-marks-requires c κs = omega (arith, c .before .before .before .before .before .before .before .before .before .before .before .before .loop .inv .articulations, c .before .before .before .before .before .before .before .before .before .before .before .loop-test .taken)
+
+add-i-2 : tie.Need-add-i-2 Inv-loop μ-loop
+add-i-2 c = omega (arith, c .before .before .before .before .before .before .before .before .before .before .before .before .loop-test .taken, c .before .before .before .before .before .before .before .before .before .before .before .before .before .before .before .before .before .good)
+
+loop-less-5 : tie.Need-loop-less-5 Inv-loop μ-loop
+loop-less-5 c = omega (arith, c .before .before .before .before .before .before .before .before .before .before .before .before .loop-test .taken)
+
+loop-again-5 : tie.Need-loop-again-5 Inv-loop μ-loop
+loop-again-5 c = scan-turn (c .before .before .before .before .before .before .before .before .before .before .before .before .before .loop .inv) (c .before .before .before .before .before .before .before .before .before .before .before .before .loop-test .taken) (next-mark _ _ (c .before .before .before .before .before .before .before .before .before .before .before .before .loop-test .taken) (c .before .before .before .before .before .before .before .before .before .before .is-digit .ensures) (c .before .before .before .before .before .before .before .before .before .if1 .left) (c .before .before .before .before .before .before .before .before .is-letter .ensures) (c .before .before .before .before .before .before .before .if2 .left) (c .before .before .before .before .before .before .if3 .left)) (c .before .before .before .step-lengths5 .ensures) (c .before .before .step-first5 .ensures) (c .before .step-sounds3 .ensures) (c .step-marks .ensures)
 
 collect-requires : tie.Need-collect-requires Inv-loop μ-loop
 collect-requires c κs = search needs
@@ -148,7 +173,7 @@ scan-token-spec =
     loop-again
     is-letter-requires
     letter-end-requires
-    sub-t24
+    sub-t25
     step-lengths-requires-2
     step-first-requires-2
     step-sounds-requires
@@ -160,12 +185,20 @@ scan-token-spec =
     add-i
     loop-less-3
     loop-again-3
+    is-odd-requires
+    odd-end-requires
     step-lengths-requires-4
     step-first-requires-4
+    sub-oddly
+    oddly-requires
+    loop-less-4
+    loop-again-4
+    step-lengths-requires-5
+    step-first-requires-5
     step-sounds-requires-3
     step-marks-requires
     add-i-2
-    loop-less-4
-    loop-again-4
+    loop-less-5
+    loop-again-5
     collect-requires
     returns)
