@@ -1,7 +1,8 @@
 // A text as lines and tokens, and what a line or a token is.
 ghost use mathlib.Core.Path.{_≡_};
 ghost use Prim.Native.Nat.{_+_, _≤_};
-ghost use lib.ListN.{length};
+ghost use mathlib.Core.Bool.{true};
+ghost use lib.ListN.{length, getD};
 ghost use Rattle.lines.specs.Lines.{pieceEnd, withoutCRs, kindOf};
 ghost use Rattle.lines.specs.Tokens.{tokensOf, isNull, isNullInterpretation, isKern, isExclusive, isStar, isEmpty};
 
@@ -39,12 +40,25 @@ fn piece_end(s: &[u8], b: u8, from: usize) -> usize
     from + slices::find(&s[from..], b)
 }
 
-// The index of the next LF from `from` on, or the length.
+// Whether a `!` stands at an index.
+fn is_remark(text: &[u8], from: usize) -> bool
+    ensures { λ r. ⌜ (r ≡ true → getD (now (text .entry)) from 0 ≡ 33) ⌝ }
+{
+    if text.len() <= from {
+        return false;
+    }
+    text[from] == b'!'
+}
+
+// The index of the next LF from `from` on, or the length. Lines begun by `!` are long, and searched by blocks from the start.
 pub fn line_end(text: &[u8], from: usize) -> usize
     ensures { λ r. ⌜ r ≡ pieceEnd 10 (now (text .entry)) from ⌝ }
 {
     if text.len() < from {
         return from;
+    }
+    if is_remark(text, from) {
+        return slices::find_from(text, b'\n', from);
     }
     from + slices::find_far(&text[from..], b'\n')
 }

@@ -2,7 +2,7 @@
 use mathlib.Core.Path.{_≡_, refl, sym, ap, ap₂, subst, _∙_}
 use Prim.Native.Nat.{ℕ, _+_, _≤_, _<_}
 use native.Mathlib.Omega.{arith}
-use mathlib.Core.Bool.{Bool, true, false}
+use mathlib.Core.Bool.{Bool, true, false, false≢true}
 use mathlib.Core.List.{List, [], _∷_}
 use lib.ListN.{length, take}
 use Rattle.lines.specs.Lines.{kindOf}
@@ -108,9 +108,6 @@ module _ {row parts : List ℕ} {t : Tally} (h : Under row parts t) (line out : 
         (ap (λ (y : Step). landed y out (t .at))
         (by-found ∙ ap (λ (y : Repaired). byRepair y number offset line (placed offset (repaired (t .active) (tokensOf line))) st) e))
 
-unrecorded : false ≡ true → ⊥
-unrecorded e = let z : _≡_ {A = ℕ} 0 1 = cc in omega arith
-
 -- ---- the header, or a record behind it
 module _ (begun : Bool) (x : Landed) (line out cells parts : List ℕ) (t : Tally) (number offset : ℕ) where
   pub behind-header : begun ≡ true → x ≡ landed (onRow (rowOf cells) number offset line (stateOf cells parts t)) out (t .at)
@@ -155,13 +152,13 @@ module _ (begun : Bool) (x : Landed) (line out cells parts : List ℕ) (t : Tall
     record-line r so = go kind refl r
       where
         go : (k : Kind) → kind ≡ k → isRecord k ≡ true → x ≡ landed (readLine begun number offset line (stateOf cells parts t)) out (t .at)
-        go Empty e q = absurd (unrecorded q)
-        go Reference e q = absurd (unrecorded q)
-        go Comment e q = absurd (unrecorded q)
+        go Empty e q = absurd (false≢true q)
+        go Reference e q = absurd (false≢true q)
+        go Comment e q = absurd (false≢true q)
         go Star e q = star-line e so
         go Bar e q = bar-line e so
         go Data e q = data-line e so
 
 -- a line that is no record is of no record's kind
 pub no-record : {b : Bool} (kind k : Kind) → b ≡ isRecord kind → b ≡ false → kind ≡ k → isRecord k ≡ true → ⊥
-no-record kind k r f e q = unrecorded (sym f ∙ r ∙ ap isRecord e ∙ q)
+no-record kind k r f e q = false≢true (sym f ∙ r ∙ ap isRecord e ∙ q)

@@ -2,7 +2,7 @@
 use mathlib.Core.Path.{_≡_, refl, sym, ap, subst, _∙_}
 use Prim.Native.Nat.{ℕ, zero, suc, _+_, _-_, _≤_, _<_}
 use native.Mathlib.Omega.{arith}
-use mathlib.Core.Bool.{Bool, true, false, cond, _&&_}
+use mathlib.Core.Bool.{Bool, true, false, cond, _&&_, false≢true}
 use mathlib.Core.List.{List, [], _∷_, _++_, headD, append-nil}
 use lib.Dec.{eqb, leb, ltb}
 use lib.ListN.{length, take, drop, replicate, length-take}
@@ -82,9 +82,6 @@ none-more t n ts h =
 some-more : (t : List ℕ) (n : ℕ) (ts : List (List ℕ)) → length ts ≤ n → ts ++ replicate (n - length ts) t ≡ filledWith t n ts
 some-more t n ts h = ap (λ (l : List (List ℕ)). l ++ replicate (n - length ts) t) (sym (take-all n ts h))
 
-false-true : false ≡ true → ⊥
-false-true e = let q : _≡_ {A = ℕ} 0 1 = cc in omega arith
-
 -- by the repair that applies
 module _ (n : ℕ) (ts : List (List ℕ)) where
   unstarred : (r : Repair) → repairOf n ts ≡ r → Applies n ts r → each isOrdinary ts ≡ false → length (repairBy r n ts) ≡ n
@@ -92,7 +89,7 @@ module _ (n : ℕ) (ts : List (List ℕ)) where
   unfolding repairBy
   unstarred Whole e a o w = sym (take-all n ts (omega arith)) ∙ sym (none-more (firstOf ts) n ts (omega arith))
   unstarred Cut e a o w = sym (none-more (firstOf ts) n ts (omega arith))
-  unstarred Stars e a o w = absurd (false-true (sym o ∙ stars-ordinary n ts e))
+  unstarred Stars e a o w = absurd (false≢true (sym o ∙ stars-ordinary n ts e))
   unstarred Bars e a o w = some-more (firstOf ts) n ts (omega (arith, a .0))
 
   unbarred : (r : Repair) → Applies n ts r → identicalBars ts ≡ false → length (repairBy r n ts) ≡ n → repairBy r n ts ≡ filledWith (ascii "*") n ts
@@ -100,15 +97,15 @@ module _ (n : ℕ) (ts : List (List ℕ)) where
   unbarred Whole a o w = sym (take-all n ts (omega arith)) ∙ sym (none-more (ascii "*") n ts (omega arith))
   unbarred Cut a o w = sym (none-more (ascii "*") n ts (omega arith))
   unbarred Stars a o w = some-more (ascii "*") n ts (omega arith)
-  unbarred Bars a o w = absurd (false-true (sym o ∙ a .1))
+  unbarred Bars a o w = absurd (false≢true (sym o ∙ a .1))
 
   unfilled : (r : Repair) → repairOf n ts ≡ r → Applies n ts r → each isOrdinary ts ≡ false → identicalBars ts ≡ false → length (repairBy r n ts) ≡ n
       → (repairBy r n ts ≡ take n ts) × (n ≤ length ts)
   unfolding repairBy
   unfilled Whole e a o b w = (sym (take-all n ts (omega arith)), omega arith)
   unfilled Cut e a o b w = (refl, omega arith)
-  unfilled Stars e a o b w = absurd (false-true (sym o ∙ stars-ordinary n ts e))
-  unfilled Bars e a o b w = absurd (false-true (sym b ∙ a .1))
+  unfilled Stars e a o b w = absurd (false≢true (sym o ∙ stars-ordinary n ts e))
+  unfilled Bars e a o b w = absurd (false≢true (sym b ∙ a .1))
 
 module _ (n : ℕ) (line : List ℕ) (r : Repair) (even : repairedOf n (tokensOf line) ≡ Even r) where
   pub star-tokens : kindOf line ≡ Star → repaired n (tokensOf line) ≡ filledWith (ascii "*") n (tokensOf line)

@@ -1,26 +1,22 @@
 -- Each test is a fact.
-use mathlib.Core.Path.{_≡_, refl, sym, _∙_}
-use Prim.Native.Nat.{ℕ}
+use mathlib.Core.Path.{sym, _∙_}
 use native.Mathlib.Omega.{arith}
-use mathlib.Core.Bool.{true, false}
+use mathlib.Core.Bool.{false≢true}
 use borrow.Author.Tests.{leb-true}
 use Rattle.notes.proofs.is_plain.Statement.{statement}
 use Rattle.notes.proofs.is_plain.Tie as tie
 
-no : false ≡ true → ⊥
-no e = let z : _≡_ {A = ℕ} 0 1 = cc in omega arith
-
 returns : tie.Need-returns
-returns c = λ e. absurd (no e)
+returns c = λ e. absurd (false≢true e)
 
 returns-2 : tie.Need-returns-2
-returns-2 c = λ e. absurd (no e)
+returns-2 c = λ e. absurd (false≢true e)
 
 returns-3 : tie.Need-returns-3
 returns-3 c = λ e. record { line = omega (arith, c .before .before .if1 .left); few = omega (arith, c .before .if2 .left); full = λ q. leb-true _ _ e }
 
 returns-4 : tie.Need-returns-4
-returns-4 c = λ e. record { line = omega (arith, c .before .before .if1 .left); few = omega (arith, c .before .if2 .left); full = λ q. absurd (no (sym (c .if3 .left) ∙ q)) }
+returns-4 c = λ e. record { line = omega (arith, c .before .before .if1 .left); few = omega (arith, c .before .if2 .left); full = λ q. absurd (false≢true (sym (c .if3 .left) ∙ q)) }
 
 pub is-plain-spec : {M : Type 1} → statement M
 is-plain-spec = tie.close (tie.spec returns returns-2 returns-3 returns-4)
