@@ -85,6 +85,24 @@ fn generated(kind: usize, size: usize) -> Vec<u8> {
     }
 }
 
+/// Four columns of tokens that are drawn, each record of one length, a barline behind every eighth.
+fn drawn(size: usize, token: fn(&mut Seed, &str) -> String) -> Vec<u8> {
+    let mut seed = Seed(4712);
+    let mut text = row("**kern", 4);
+    for k in 1.. {
+        let length = seed.pick(&["4", "8", "16", "2", "4.", "8."]);
+        let mut more = (0..4).map(|_| token(&mut seed, length)).collect::<Vec<_>>().join("\t") + "\n";
+        if k % 8 == 0 {
+            more.push_str(&row("=", 4));
+        }
+        if text.len() + more.len() > size {
+            break;
+        }
+        text.push_str(&more);
+    }
+    text.into_bytes()
+}
+
 fn kinds() -> Vec<Kind> {
     let four = "!!!COM: Bach, Johann Sebastian\n!!!OTL: Chorale\n**kern\t**kern\t**kern\t**kern\n*I\"Bass\t*I\"Tenor\t*I\"Alto\t*I\"Soprano\n*clefF4\t*clefGv2\t*clefG2\t*clefG2\n*k[b-e-]\t*k[b-e-]\t*k[b-e-]\t*k[b-e-]\n*M4/4\t*M4/4\t*M4/4\t*M4/4\n";
     let chorale = [
@@ -110,6 +128,8 @@ fn kinds() -> Vec<Kind> {
     vec![
         Kind { dense: true, ..by_size("generated chorales, all music", |n| generated(1, n)) },
         Kind { dense: true, ..by_size("engraved chorales, all music", |n| generated(9, n)) },
+        Kind { dense: true, ..by_size("drawn pitches, all music", |n| drawn(n, |seed, length| format!("{length}{}", seed.pick(&generate::PITCHES)))) },
+        Kind { dense: true, ..by_size("drawn chords, all music", |n| drawn(n, |seed, length| format!("{length}{} {length}{}", seed.pick(&generate::PITCHES), seed.pick(&generate::PITCHES)))) },
         by_records("chorale, all music", four, &chorale, &[]),
         by_records("piano with sub-spines, all music", two, &piano, &[]),
         by_records("256 columns, all music", &wide, &[(&(row("8cL", 256) + &row("8dJ", 256) + &row("=", 256)), 512)], &[]),

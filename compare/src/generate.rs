@@ -15,7 +15,7 @@ impl Seed {
         (self.next() >> 33) as usize % n
     }
 
-    fn pick<'a>(&mut self, from: &[&'a str]) -> &'a str {
+    pub fn pick<'a>(&mut self, from: &[&'a str]) -> &'a str {
         from[self.below(from.len())]
     }
 }
@@ -113,7 +113,7 @@ pub fn kind(seed: &mut Seed, k: usize) -> Vec<u8> {
     }
 }
 
-const PITCHES: [&str; 24] = ["c", "d", "e", "f", "g", "a", "b", "cc", "dd", "ee-", "ff#", "gg", "C", "D", "E-", "F#", "G", "A", "BB", "CC", "GG", "c#", "b-", "fn"];
+pub const PITCHES: [&str; 24] = ["c", "d", "e", "f", "g", "a", "b", "cc", "dd", "ee-", "ff#", "gg", "C", "D", "E-", "F#", "G", "A", "BB", "CC", "GG", "c#", "b-", "fn"];
 
 fn chorale(seed: &mut Seed) -> Vec<u8> {
     let mut lines = vec!["!!!COM: Bach, Johann Sebastian".to_string(), "!!!OTL@@DE: Jesu, meine Freude".to_string(), "!!!OTL: Chorale".to_string(), "**kern\t**kern\t**kern\t**kern".to_string()];

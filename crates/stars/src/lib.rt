@@ -226,7 +226,7 @@ fn exchanges_right(line: &[u8], from: usize, end: usize, n: usize, left: bool) -
     if left {
         return false;
     }
-    if exchange_at(line, from, n) {
+    if is_exchange(paths::path_token(&line[from..end])) {
         return exchange_at(line, end + 1, n - 1);
     }
     false

@@ -13,7 +13,7 @@ returns-2 : tie.Need-returns-2
 returns-2 c = λ e. absurd (false≢true e)
 
 returns-3 : tie.Need-returns-3
-returns-3 c = λ e. record { line = omega (arith, c .before .before .if1 .left); few = omega (arith, c .before .if2 .left); full = λ q. leb-true _ _ e }
+returns-3 c = λ e. record { line = omega (arith, c .before .before .if1 .left); few = omega (arith, c .before .if2 .left); full = λ q. leb-true 1024 (c .before .before .before .args .notices) e }
 
 returns-4 : tie.Need-returns-4
 returns-4 c = λ e. record { line = omega (arith, c .before .before .if1 .left); few = omega (arith, c .before .if2 .left); full = λ q. absurd (false≢true (sym (c .if3 .left) ∙ q)) }
