@@ -22,7 +22,7 @@ use Rattle.state.specs.Ready.{Ready}
 use Rattle.state.specs.View.{Landed, going, landed}
 use Rattle.notes.specs.declared.Spot.{Spot}
 use Rattle.notes.specs.declared.Column.{Column}
-use Rattle.notes.specs.Spot.{tokenStep, Sited}
+use Rattle.notes.specs.Spot.{spotAt, tokenStep, Sited}
 use Rattle.notes.specs.Column.{tokenIn, columnStep}
 use Rattle.notes.proofs.TokenLaws.{quiet-step}
 
@@ -42,13 +42,7 @@ spine-null outside all kern k i t st e = refl
 
 -- the spot of a column in a kern line
 abbrev pub spotOf : List ℕ → Column → Spot
-spotOf row c = record {
-  part = getD row (c .index) 0 / 8 - 1;
-  voice = getD row (c .index) 0 % 8;
-  line = c .line;
-  column = c .index + 1;
-  at = c .offset + c .from;
-}
+spotOf row c = spotAt (getD row (c .index) 0) (c .index) (c .line) (c .offset + c .from)
 
 module _ (text row : List ℕ) (c : Column) where
   is-line : 8 ≤ getD row (c .index) 0 → getD row (c .index) 0 % 8 ≤ 3 → spineOf (getD row (c .index) 0) ≡ line (getD row (c .index) 0 / 8 - 1) (getD row (c .index) 0 % 8)
@@ -79,13 +73,15 @@ module _ (text row : List ℕ) (c : Column) where
       ∙ ap (λ (s : Step). landed s out at)
       (sym (spine-null (spineOf (getD row (c .index) 0)) (take (length row) (tokensOf text)) (map isKernSpine (rowOf row)) (c .line) (c .index) (tokenIn text c) st e))
 
-  pub column-line : (st : State) (out : List ℕ) (at : ℕ) {v : Value} {l : Landed} → 8 ≤ getD row (c .index) 0 → getD row (c .index) 0 % 8 ≤ 3
+  pub column-line : (st : State) (out : List ℕ) (at : ℕ) {v : Value} {s : Spot} {l : Landed} → 8 ≤ getD row (c .index) 0 → getD row (c .index) 0 % 8 ≤ 3
       → v ≡ durationOf (notes.inferredFor (take (length row) (tokensOf text)) (map isKernSpine (rowOf row)) (c .index) (tokenIn text c .bytes))
-      → l ≡ landed (tokenStep (tokenIn text c .bytes) v (spotOf row c) st) out at
+      → s ≡ spotOf row c
+      → l ≡ landed (tokenStep (tokenIn text c .bytes) v s st) out at
       → l ≡ landed (columnStep text row c st) out at
   unfolding columnStep tokenStep notes.readToken-at
-  column-line st out at h m e q =
+  column-line st out at {v} h m e is q =
       q
+      ∙ ap (λ (x : Spot). landed (tokenStep (tokenIn text c .bytes) v x st) out at) is
       ∙ ap (λ (x : Value). landed (tokenStep (tokenIn text c .bytes) x (spotOf row c) st) out at) e
       ∙ ap (λ (s : Spine). landed (notes.readSpine s (take (length row) (tokensOf text)) (map isKernSpine (rowOf row)) (c .line) (c .index) (tokenIn text c) st) out at)
       (sym (is-line h m))

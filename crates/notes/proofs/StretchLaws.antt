@@ -1,5 +1,5 @@
 -- The columns of a stretch, one after the other.
-use mathlib.Core.Path.{_≡_, refl, sym, ap, _∙_}
+use mathlib.Core.Path.{_≡_, refl, sym, ap, subst, _∙_}
 use Prim.Native.Nat.{ℕ, _+_, _-_, _/_, _%_, _^_, _≤_, _<_}
 use native.Mathlib.Omega.{arith}
 use mathlib.Core.List.{List}
@@ -19,7 +19,7 @@ use Rattle.notes.specs.declared.Spot.{Spot}
 use Rattle.notes.specs.declared.Column.{Column}
 use Rattle.notes.specs.declared.Stretch.{Stretch}
 use Rattle.notes.specs.Column.{tokenIn, rest}
-use Rattle.notes.specs.Spot.{Same, Sited}
+use Rattle.notes.specs.Spot.{spotAt, Same, Sited}
 use Rattle.notes.specs.Stretch.{AtOnce, Sung, countsAt, withStretch, Stretched}
 use Rattle.notes.proofs.NoticeLaws.{same, same-same, inferred-no}
 use Rattle.notes.proofs.TokenLaws.{plain-step, note-added}
@@ -55,14 +55,15 @@ module _ {whole : Landed} {line row parts₀ out₀ : List ℕ} {t₀ : Tally} {
 
   -- the spot of a note, whose offset no NOTE has
   abbrev spotHere : Spot
-  spotHere = record { part = getD row i 0 / 8 - 1; voice = getD row i 0 % 8; line = k; column = i + 1; at = 0 }
+  spotHere = spotAt (getD row i 0) i k 0
 
-  pub note-turn : {p : Plain} {s : Shape} {parts′ out′ : List ℕ} {place : ℕ} → ShapeAt line from s → s ≡ Note p → 8 ≤ getD row i 0
+  pub note-turn : {p : Plain} {s : Shape} {spot : Spot} {parts′ out′ : List ℕ} {place : ℕ} → ShapeAt line from s → s ≡ Note p → 8 ≤ getD row i 0
       → AtOnce (getD row i 0) n (p .odd) (t₀ .notices)
-      → Sung (pieceAt line from (p .end - from)) p spotHere t₀ at parts out parts′ out′ place
+      → spot ≡ spotHere → Sung (pieceAt line from (p .end - from)) p spot t₀ at parts out parts′ out′ place
       → length parts′ ≡ length parts → length out′ ≡ length out
       → Reading whole line row parts₀ out₀ t₀ k offset parts′ out′ (countsAt t₀ (n + 1) place) (p .end + 1) (i + 1)
-  note-turn {p} {s} {parts′} {out′} {place} shape q kern once sung lp lo =
+  note-turn {p} {s} {spot} {parts′} {out′} {place} shape q kern once is by lp lo =
+      let sung : Sung (pieceAt line from (p .end - from)) p spotHere t₀ at parts out parts′ out′ place = subst (λ (x : Spot). Sung (pieceAt line from (p .end - from)) p x t₀ at parts out parts′ out′ place) is by in
       let z : p .end ≡ pieceEnd 9 line from = note-end line from s shape q in
       let c : Column = column (p .end) in
       let token : List ℕ = tokenIn line c .bytes in
@@ -70,7 +71,7 @@ module _ {whole : Landed} {line row parts₀ out₀ : List ℕ} {t₀ : Tally} {
       let t : Tally = countsAt t₀ n at in
       let added = note-added row parts parts′ token (p .note) (spotOf row c) {t = t} {u = t} {w = countsAt t₀ (n + 1) place} (once .few) (inferred-no token (spotOf row c) t out (plain .sure)) (sym (plain .letters)) (sung .sounds) refl refl (sung .lays) (sung .ends) refl in
       data-turn inv parts′ out′ (Goes (countsAt t₀ (n + 1) place)) h (piece-at low z)
-      (column-line line row c (stateOf row parts t) out at kern (once .line) refl (plain-step row parts token _ (spotOf row c) t out plain (once .full) added))
+      (column-line line row c (stateOf row parts t) out at kern (once .line) refl refl (plain-step row parts token _ (spotOf row c) t out plain (once .full) added))
       (record { active = refl; parts = refl; bars = refl }) refl lp lo
 
   -- it is one of a part and of a voice

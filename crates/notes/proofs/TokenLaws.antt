@@ -32,6 +32,7 @@ use Rattle.plain.specs.Plain.{PlainToken}
 use Rattle.plain.specs.declared.Plain.{Plain}
 use Rattle.notes.specs.declared.Spot.{Spot}
 use Rattle.notes.specs.Beam.{beamBy, soundedBy}
+use Rattle.notes.specs.Stretch.{partBefore}
 use Rattle.notes.specs.Spot.{tokenAt, tokenStep, noteAt, withNote, Same, Kept, Noticed, inferredNotice}
 use Rattle.notes.proofs.BeamLaws.{sounded-by, beam-by}
 use Rattle.notes.proofs.NoticeLaws.{same-same, noticed-none, signify-none, signify-full, noticed-goes, noticed-behind}
@@ -41,10 +42,6 @@ pub note-refused : (p v k j at : ℕ) (token : List ℕ) (n : Note) (st : State)
     → stopped 10 k 0 ≡ landed (notes.addNote p v k j (record { at = at; bytes = token }) n st) out place
 unfolding notes.addNote
 note-refused p v k j at token n st out place h = rw (le-ltb (st .notes) 100000 h)
-
--- the part of the spot among the parts
-abbrev partHere : Spot → Tally → List ℕ → Part
-partHere s u parts = getD (partsOf (u .parts) parts) (s .part) (freshPart (s .part))
 
 -- the note's own result
 abbrev noteResult : List ℕ → Note → Spot → State → Result
@@ -62,15 +59,15 @@ after-landed r f out at =
 module _ (cells parts parts′ token : List ℕ) (n : Note) (s : Spot) {t u w : Tally} {old mid new : List ℕ} {beam at : ℕ} {written : NoteWritten}
     (few : t .notes < 100000) (h : Noticed t u old mid (inferredNotice (n .inferred) token s))
     {l : Letters} (letters : l ≡ lettersOf token)
-    (sounds : partsOf (u .parts) parts′ ≡ set (partsOf (u .parts) parts) (s .part) (soundedBy (partHere s u parts) (s .voice) (l .starts) (l .ends)))
-    (beams : beam ≡ beamNumber (beamBy (partHere s u parts) (s .voice) (l .starts) (l .ends) .mark))
+    (sounds : partsOf (u .parts) parts′ ≡ set (partsOf (u .parts) parts) (s .part) (soundedBy (partBefore s u parts) (s .voice) (l .starts) (l .ends)))
+    (beams : beam ≡ beamNumber (beamBy (partBefore s u parts) (s .voice) (l .starts) (l .ends) .mark))
     (is : written ≡ noteAt n s (u .bars) beam)
     (lays : new ≡ laid mid (u .at) (noteRecord written token ∷ []))
     (ends : at ≡ behind (u .at) (noteRecord written token ∷ []))
     (counts : w ≡ withNote u at) where
   record-is : noteRecord written token ≡ notes.noteRecord (s .part) (s .voice) (s .line) (s .column) token n (stateOf cells parts u)
   unfolding notes.noteRecord
-  record-is = ap (λ (x : NoteWritten). noteRecord x token) (is ∙ ap (noteAt n s (u .bars)) (beams ∙ beam-by (partHere s u parts) (s .voice) token letters))
+  record-is = ap (λ (x : NoteWritten). noteRecord x token) (is ∙ ap (noteAt n s (u .bars)) (beams ∙ beam-by (partBefore s u parts) (s .voice) token letters))
 
   state-is : stateOf cells parts′ w ≡ noteResult token n s (stateOf cells parts u) .state
   state-is =
@@ -85,7 +82,7 @@ module _ (cells parts parts′ token : List ℕ) (n : Note) (s : Spot) {t u w : 
         title = u .title;
         composer = u .composer;
         lyricist = u .lyricist;
-      }) (sounds ∙ ap (set (partsOf (u .parts) parts) (s .part)) (sounded-by (partHere s u parts) (s .voice) token letters))
+      }) (sounds ∙ ap (set (partsOf (u .parts) parts) (s .part)) (sounded-by (partBefore s u parts) (s .voice) token letters))
 
   place-is : w .at ≡ behind (u .at) (noteResult token n s (stateOf cells parts u) .records)
   place-is = ap (λ (x : Tally). x .at) counts ∙ ends ∙ ap (λ (r : Record). behind (u .at) (r ∷ [])) record-is

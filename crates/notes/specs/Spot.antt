@@ -1,6 +1,6 @@
 -- A token of a kern line: where it stands, what it comes to, and what stays as it was.
 use mathlib.Core.Path.{_≡_}
-use Prim.Native.Nat.{ℕ, _+_, _^_, _≤_, _<_}
+use Prim.Native.Nat.{ℕ, _+_, _-_, _/_, _%_, _^_, _≤_, _<_}
 use mathlib.Core.Bool.{Bool, cond}
 use mathlib.Core.List.{List}
 use lib.ListN.{length}
@@ -19,6 +19,10 @@ use Rattle.state.specs.declared.Step.the-variants.{Refused, Goes, Ends}
 use Rattle.state.specs.Lay.{laid, behind}
 use Rattle.state.specs.View.{stateOf}
 use Rattle.notes.specs.declared.Spot.{Spot}
+
+-- the spot of a kern line's cell, 8 * (part + 1) + voice, in a column from 0
+abbrev pub spotAt : ℕ → ℕ → ℕ → ℕ → Spot
+spotAt cell index line at = record { part = cell / 8 - 1; voice = cell % 8; line = line; column = index + 1; at = at }
 
 -- the token of a spot
 abbrev pub tokenAt : Spot → List ℕ → Token

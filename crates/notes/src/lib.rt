@@ -32,7 +32,7 @@ ghost use Rattle.state.specs.View.{stateOf, landed, told};
 ghost use Rattle.notes.specs.Beam.{beamBy, soundedBy};
 ghost use Rattle.notes.specs.Column.{columnStep};
 ghost use Rattle.notes.specs.Stretch.{AtOnce, Sung, withStretch, Stretched};
-ghost use Rattle.notes.specs.Spot.{tokenAt, tokenStep, noteAt, withNote, Kept, Noticed, inferredNotice, Sited};
+ghost use Rattle.notes.specs.Spot.{spotAt, tokenAt, tokenStep, noteAt, withNote, Kept, Noticed, inferredNotice, Sited};
 
 // Where a token stands: its part and voice, line and column from 1, and its offset in the text.
 pub struct Spot {
@@ -41,6 +41,20 @@ pub struct Spot {
     pub line: u32,
     pub column: u16,
     pub at: u32,
+}
+
+// The spot of a kern line's cell, in a column from 0.
+fn spot_at(cell: u16, index: usize, line: u32, at: u32) -> Spot
+    requires { ⌜ (8 ≤ cell) × (index < 512) ⌝ }
+    ensures { λ r. ⌜ r ≡ spotAt cell index line at ⌝ }
+{
+    Spot {
+        part: (cell / 8 - 1) as usize,
+        voice: (cell % 8) as usize,
+        line,
+        column: (index + 1) as u16,
+        at,
+    }
 }
 
 // ---- the beam
@@ -313,13 +327,7 @@ fn read_column(
     }
     let token = &line[from..end];
     let inferred = infer(line, row, i, token);
-    let spot = Spot {
-        part: (cell / 8 - 1) as usize,
-        voice: (cell % 8) as usize,
-        line: column.line,
-        column: (i + 1) as u16,
-        at: column.offset + from as u32,
-    };
+    let spot = spot_at(cell, i, column.line, column.offset + from as u32);
     read_token(token, inferred, spot, parts, tally, out)
 }
 
@@ -334,7 +342,7 @@ struct Stretch {
 }
 
 // Whether a note of the usual shape is written at once: in a kern line, at most the 100,000th, and with no notice to be kept.
-fn is_plain(cell: u16, notes: u32, odd: bool, notices: u32) -> bool
+fn at_once(cell: u16, notes: u32, odd: bool, notices: u32) -> bool
     ensures { λ r. ⌜ (r ≡ true → AtOnce cell notes odd notices) ⌝ }
 {
     if 3 < cell % 8 {
@@ -387,12 +395,7 @@ fn read_stretch(
     let mut at = tally.at;
     while i < row.len() {
         if line.len() < from {
-            return Stretch {
-                from,
-                index: i,
-                notes,
-                at,
-            };
+            break;
         }
         let cell = row[i];
         if cell < 8 {
@@ -403,35 +406,19 @@ fn read_stretch(
         let shape = plain::shape_of(line, from);
         match shape {
             Shape::Other => {
-                return Stretch {
-                    from,
-                    index: i,
-                    notes,
-                    at,
-                };
+                break;
             }
             Shape::Null(end) => {
                 from = end + 1;
                 i += 1;
             }
             Shape::Note(p) => {
-                if !is_plain(cell, notes, p.odd, tally.notices) {
-                    return Stretch {
-                        from,
-                        index: i,
-                        notes,
-                        at,
-                    };
+                if !at_once(cell, notes, p.odd, tally.notices) {
+                    break;
                 }
                 let end = p.end;
                 let token = &line[from..end];
-                let spot = Spot {
-                    part: (cell / 8 - 1) as usize,
-                    voice: (cell % 8) as usize,
-                    line: number,
-                    column: (i + 1) as u16,
-                    at: 0,
-                };
+                let spot = spot_at(cell, i, number, 0);
                 at = write_plain(token, p, spot, parts, tally, at, out);
                 notes += 1;
                 from = end + 1;

@@ -136,60 +136,44 @@ fn marks(line: &[u8], from: usize, tying: bool, slurring: bool) -> Marked
         if b == b'L' {
             starts = true;
             i += 1;
-            continue;
-        }
-        if b == b'J' {
+        } else if b == b'J' {
             ends = true;
             i += 1;
-            continue;
-        }
-        if b == b'[' {
+        } else if b == b'[' {
             ties = true;
             i += 1;
-            continue;
-        }
-        if b == b']' {
+        } else if b == b']' {
             tied = true;
             i += 1;
-            continue;
-        }
-        if b == b'_' {
+        } else if b == b'_' {
             ties = true;
             tied = true;
             i += 1;
-            continue;
-        }
-        if b == b'(' {
+        } else if b == b'(' {
             slurs = true;
             i += 1;
-            continue;
-        }
-        if b == b')' {
+        } else if b == b')' {
             slurred = true;
             i += 1;
-            continue;
-        }
-        if token::scan::articulation(b) < 5 {
+        } else if token::scan::articulation(b) < 5 {
             articulations += 1;
             i += 1;
-            continue;
-        }
-        if is_odd(b) {
+        } else if is_odd(b) {
             odd = true;
             i += 1;
-            continue;
+        } else {
+            return Marked {
+                ties,
+                tied,
+                slurs,
+                slurred,
+                starts,
+                ends,
+                articulations,
+                odd,
+                end: i,
+            };
         }
-        return Marked {
-            ties,
-            tied,
-            slurs,
-            slurred,
-            starts,
-            ends,
-            articulations,
-            odd,
-            end: i,
-        };
     }
     Marked {
         ties,

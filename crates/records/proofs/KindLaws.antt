@@ -25,7 +25,8 @@ use Rattle.state.specs.View.{stateOf, Landed, landed, told, toldRow}
 use Rattle.stars.specs.Columns.{filled}
 use Rattle.bars.specs.Bars.{filledBars}
 use Rattle.notes.specs.Spot.{Kept}
-use Rattle.records.specs.Here.{Under, Evenly, withActive}
+use Rattle.records.specs.Here.{Under, Evenly}
+use Rattle.state.specs.Counts.{withActive}
 use Rattle.records.proofs.RepairLaws.{filledWith, star-tokens, bar-tokens, data-tokens}
 use Rattle.records.proofs.OutcomeLaws.{kept-row, quiet-told}
 

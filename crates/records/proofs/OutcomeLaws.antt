@@ -27,7 +27,7 @@ use Rattle.state.specs.declared.Step.the-variants.{Refused, Goes, Ends}
 use Rattle.state.specs.Lay.{laid, behind}
 use Rattle.state.specs.View.{stateOf, going, ending, landed, told, toldRow}
 use Rattle.notes.specs.Spot.{Kept}
-use Rattle.records.specs.Here.{withActive}
+use Rattle.state.specs.Counts.{withActive}
 use Rattle.state.proofs.ViewLaws.{landed-behind}
 use Rattle.writing.specs.Kept.{noticeOf, keptRecords, afterKept}
 use Rattle.writing.proofs.KeptLaws.{Same, kept-same, notify-told}

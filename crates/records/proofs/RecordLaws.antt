@@ -29,7 +29,8 @@ use Rattle.state.specs.Ready.{Ready}
 use Rattle.state.specs.View.{stateOf, Landed, stopped, landed, told, toldRow}
 use Rattle.writing.specs.Kept.{noticeOf, keptRecords, afterKept}
 use Rattle.writing.proofs.KeptLaws.{Same, kept-same, notify-told}
-use Rattle.records.specs.Here.{Under, Here, Evenly, withActive}
+use Rattle.records.specs.Here.{Under, Here, Evenly}
+use Rattle.state.specs.Counts.{withActive}
 use Rattle.records.proofs.OutcomeLaws.{landed-told, none-left, some-left, ends-told, quiet-told}
 use Rattle.records.proofs.KindLaws.{row-length}
 

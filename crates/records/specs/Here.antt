@@ -24,18 +24,3 @@ pub record Here (line row parts : List ℕ) (t : Tally) (number offset : ℕ) : 
 -- questions 6 and 7 pass
 abbrev pub Evenly : ℕ → List ℕ → Type 0
 Evenly n line = (r : Repair) × (repairedOf n (tokensOf line) ≡ Even r)
-
--- the counts with so many active spines
-abbrev pub withActive : Tally → ℕ → Tally
-withActive t active = record {
-  active = active;
-  parts = t .parts;
-  bars = t .bars;
-  notes = t .notes;
-  notices = t .notices;
-  tempo = t .tempo;
-  title = t .title;
-  composer = t .composer;
-  lyricist = t .lyricist;
-  at = t .at;
-}

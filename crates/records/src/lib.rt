@@ -22,7 +22,7 @@ ghost use Rattle.reading.specs.Records.{noticeRepair, isRecord, byKind, onRow, 
 ghost use Rattle.state.specs.View.{stateOf, landed, told, toldRow};
 ghost use Rattle.state.specs.declared.Step.the-variants.{Goes};
 ghost use Rattle.writing.proofs.KeptLaws.{Same};
-ghost use Rattle.records.specs.Here.{Under, Here, Evenly, withActive};
+ghost use Rattle.records.specs.Here.{Under, Here, Evenly};
 
 // The number of the notice that says of a repair; 0 is none.
 fn repair_notice(repair: Repair) -> u8
@@ -80,27 +80,6 @@ pub fn begun_after(begun: bool, kind: Kind) -> bool
     is_record(kind)
 }
 
-// The counts with so many active spines.
-fn with_active(tally: Tally, active: usize) -> Tally
-    ensures { λ r. ⌜ r ≡ withActive tally active ⌝ }
-{
-    let title = tally.title;
-    let composer = tally.composer;
-    let lyricist = tally.lyricist;
-    Tally {
-        active,
-        parts: tally.parts,
-        bars: tally.bars,
-        notes: tally.notes,
-        notices: tally.notices,
-        tempo: tally.tempo,
-        title,
-        composer,
-        lyricist,
-        at: tally.at,
-    }
-}
-
 // A barline record under the first cells of an array.
 fn bar_of(line: &[u8], row: &[u16], parts: &mut [u32], tally: Tally, out: &mut [u8]) -> Step
     requires { ⌜ Under (now row) (now parts) tally × ((kindOf (now line) ≡ Bar) × Evenly (tally .active) (now line)) ⌝ }
@@ -108,7 +87,7 @@ fn bar_of(line: &[u8], row: &[u16], parts: &mut [u32], tally: Tally, out: &mut [
 {
     let active = tally.active;
     let closed = bars::read_bar(line, &row[..active], parts, tally, out);
-    Step::Goes(with_active(closed, active))
+    Step::Goes(state::with_active(closed, active))
 }
 
 // A data record under the first cells of an array.
@@ -276,7 +255,7 @@ pub fn read_line(
         Kind::Comment => Step::Goes(tally),
         Kind::Reference => {
             let set = header::read_reference(line, number, offset, tally, out);
-            Step::Goes(with_active(set, active))
+            Step::Goes(state::with_active(set, active))
         }
         Kind::Star => Step::Goes(tally),
         Kind::Bar => Step::Goes(tally),

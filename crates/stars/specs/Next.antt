@@ -3,22 +3,9 @@ use Prim.Native.Nat.{ℕ}
 use Rattle.voices.specs.declared.Step.{Step}
 use Rattle.voices.specs.declared.Step.the-variants.{Next, Voiceless, Wide}
 use Rattle.state.specs.declared.Tally.{Tally}
+use Rattle.state.specs.Counts.{withActive}
 use Rattle.state.specs.declared.Step.{Step as StepTold}
 use Rattle.state.specs.declared.Step.the-variants.{Refused, Goes}
-
-abbrev pub withActive : Tally → ℕ → Tally
-withActive t n = record {
-  active = n;
-  parts = t .parts;
-  bars = t .bars;
-  notes = t .notes;
-  notices = t .notices;
-  tempo = t .tempo;
-  title = t .title;
-  composer = t .composer;
-  lyricist = t .lyricist;
-  at = t .at;
-}
 
 -- "8, figure the part of the first that doesn't"; "9, figure their count"
 abbrev pub stepped : Step → Tally → ℕ → StepTold

@@ -27,7 +27,7 @@ ghost use Rattle.state.specs.View.{stateOf, landed, told, toldRow};
 ghost use Rattle.state.specs.declared.Step.the-variants.{Goes};
 ghost use Rattle.state.specs.Ready.{Ready};
 ghost use Rattle.stars.specs.Columns.{filled, tokenOf, columnsOf, withFirst, tempoed, noticed, Comes, Fit};
-ghost use Rattle.stars.specs.Next.{withActive, stepped};
+ghost use Rattle.stars.specs.Next.{stepped};
 
 // The counts with a tempo, if it is the first.
 fn with_first(tally: Tally, bpm: u16) -> Tally
@@ -303,33 +303,12 @@ fn columns_of(
     read_columns(line, &row[..active], parts, tally, number, offset, out)
 }
 
-// The counts with the next row's width.
-fn with_active(tally: Tally, n: usize) -> Tally
-    ensures { λ r. ⌜ r ≡ withActive tally n ⌝ }
-{
-    let title = tally.title;
-    let composer = tally.composer;
-    let lyricist = tally.lyricist;
-    Tally {
-        active: n,
-        parts: tally.parts,
-        bars: tally.bars,
-        notes: tally.notes,
-        notices: tally.notices,
-        tempo: tally.tempo,
-        title,
-        composer,
-        lyricist,
-        at: tally.at,
-    }
-}
-
 // The answer: questions 8 and 9, or the next row's width.
 fn answer(step: voices::Step, tally: Tally, number: u32) -> Step
     ensures { λ r. ⌜ r ≡ stepped step tally number ⌝ }
 {
     match step {
-        voices::Step::Next(n) => Step::Goes(with_active(tally, n)),
+        voices::Step::Next(n) => Step::Goes(state::with_active(tally, n)),
         voices::Step::Voiceless(p) => Step::Refused {
             number: 8,
             line: number as usize,

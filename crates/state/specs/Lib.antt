@@ -3,3 +3,4 @@ pub mod Parts
 pub mod Lay
 pub mod View
 pub mod Ready
+pub mod Counts

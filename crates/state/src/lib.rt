@@ -3,6 +3,7 @@ use sheet::Span;
 ghost use mathlib.Core.Path.{_≡_};
 ghost use Prim.Native.Nat.{_+_, _%_, _^_};
 ghost use Rattle.state.specs.Lay.{past};
+ghost use Rattle.state.specs.Counts.{withActive};
 
 // Active spines and parts, bars closed, notes and kept notices, the first tempo, what the references set, and where the next record goes.
 pub struct Tally {
@@ -34,4 +35,25 @@ pub fn past(at: usize, n: usize) -> usize
     ensures { λ r. ⌜ r ≡ past at n ⌝ }
 {
     std::num::wrapping_add_usize(at, n)
+}
+
+// The counts with so many active spines.
+pub fn with_active(tally: Tally, active: usize) -> Tally
+    ensures { λ r. ⌜ r ≡ withActive tally active ⌝ }
+{
+    let title = tally.title;
+    let composer = tally.composer;
+    let lyricist = tally.lyricist;
+    Tally {
+        active,
+        parts: tally.parts,
+        bars: tally.bars,
+        notes: tally.notes,
+        notices: tally.notices,
+        tempo: tally.tempo,
+        title,
+        composer,
+        lyricist,
+        at: tally.at,
+    }
 }

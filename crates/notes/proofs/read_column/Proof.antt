@@ -31,29 +31,17 @@ part-token-end c = search needs
 infer-requires : tie.Need-infer-requires
 infer-requires c κs = search needs
 
-sub-t20 : tie.Need-sub-t20
-sub-t20 c = search needs
+cast-spot-at : tie.Need-cast-spot-at
+cast-spot-at c = search needs
 
-cast-t14 : tie.Need-cast-t14
-cast-t14 c = omega (arith, c .before .before .before .before .shared-slice-known3 .given (c .before .before .before .before .before .before .before .before .before .args .column .index))
+add-spot-at : tie.Need-add-spot-at
+add-spot-at c = search needs
 
-cast-t22 : tie.Need-cast-t22
-cast-t22 c = search needs
-
-add-t23 : tie.Need-add-t23
-add-t23 c = search needs
-
-cast-t24 : tie.Need-cast-t24
-cast-t24 c = search needs
-
-cast-t25 : tie.Need-cast-t25
-cast-t25 c = search needs
-
-add-t26 : tie.Need-add-t26
-add-t26 c = search needs
+spot-at-requires : tie.Need-spot-at-requires
+spot-at-requires c κs = search needs
 
 read-token-requires : tie.Need-read-token-requires
-read-token-requires c κs = column-sited (c .before .before .before .before .before .before .before .before .before .before .before .before .args .line .now) (c .before .before .before .before .before .before .before .before .before .before .before .before .args .row .now) (c .before .before .before .before .before .before .before .before .before .before .before .before .args .column) (c .before .before .before .before .before .before .before .before .before .before .before .before .pre .0) (c .before .before .before .before .before .before .before .before .before .before .before .before .pre .1 .0) (c .before .before .before .before .before .before .before .before .before .before .before .before .pre .1 .1 .0) (c .before .before .before .before .before .before .before .before .before .before .before .before .pre .1 .1 .1 .0) (c .before .before .before .before .before .before .before .before .before .before .before .before .pre .1 .1 .1 .1) (c .before .before .before .before .before .before .if1 .left) (c .before .before .before .before .before .if2 .left)
+read-token-requires c κs = rw (c .before .before .spot-at .ensures) (column-sited (c .before .before .before .before .before .before .before .before .before .before .before .before .before .args .line .now) (c .before .before .before .before .before .before .before .before .before .before .before .before .before .args .row .now) (c .before .before .before .before .before .before .before .before .before .before .before .before .before .args .column) (c .before .before .before .before .before .before .before .before .before .before .before .before .before .pre .0) (c .before .before .before .before .before .before .before .before .before .before .before .before .before .pre .1 .0) (c .before .before .before .before .before .before .before .before .before .before .before .before .before .pre .1 .1 .0) (c .before .before .before .before .before .before .before .before .before .before .before .before .before .pre .1 .1 .1 .0) (c .before .before .before .before .before .before .before .before .before .before .before .before .before .pre .1 .1 .1 .1) (c .before .before .before .before .before .before .before .if1 .left) (c .before .before .before .before .before .before .if2 .left))
 
 same-length : tie.Need-same-length
 same-length c = search needs
@@ -62,7 +50,7 @@ same-length-2 : tie.Need-same-length-2
 same-length-2 c = search needs
 
 returns-3 : tie.Need-returns-3
-returns-3 c = (column-line (c .before .before .before .before .before .before .before .before .before .before .before .before .before .before .before .before .before .args .line .now) (c .before .before .before .before .before .before .before .before .before .before .before .before .before .before .before .before .before .args .row .now) (c .before .before .before .before .before .before .before .before .before .before .before .before .before .before .before .before .before .args .column) (stateOf (c .before .before .before .before .before .before .before .before .before .before .before .before .before .before .before .before .before .args .row .now) (c .before .before .before .before .before .before .before .before .before .before .before .before .before .before .before .before .before .args .parts .now) (c .before .before .before .before .before .before .before .before .before .before .before .before .before .before .before .before .before .args .tally)) (c .before .before .before .before .before .before .before .before .before .before .before .before .before .before .before .before .before .args .out .now) (c .before .before .before .before .before .before .before .before .before .before .before .before .before .before .before .before .before .args .tally .at) (c .before .before .before .before .before .before .before .before .before .before .before .if1 .left) (c .before .before .before .before .before .before .before .before .before .before .if2 .left) (c .before .before .before .before .before .before .before .before .infer .ensures) (c .before .before .before .before .read-token .ensures .0 (c .before .before .before .before .before .before .before .before .before .before .before .before .before .before .before .before .before .args .row .now)), c .before .before .before .before .read-token .ensures .1)
+returns-3 c = (column-line (c .before .before .before .before .before .before .before .before .before .before .before .before .before .before .before .before .before .before .args .line .now) (c .before .before .before .before .before .before .before .before .before .before .before .before .before .before .before .before .before .before .args .row .now) (c .before .before .before .before .before .before .before .before .before .before .before .before .before .before .before .before .before .before .args .column) (stateOf (c .before .before .before .before .before .before .before .before .before .before .before .before .before .before .before .before .before .before .args .row .now) (c .before .before .before .before .before .before .before .before .before .before .before .before .before .before .before .before .before .before .args .parts .now) (c .before .before .before .before .before .before .before .before .before .before .before .before .before .before .before .before .before .before .args .tally)) (c .before .before .before .before .before .before .before .before .before .before .before .before .before .before .before .before .before .before .args .out .now) (c .before .before .before .before .before .before .before .before .before .before .before .before .before .before .before .before .before .before .args .tally .at) (c .before .before .before .before .before .before .before .before .before .before .before .before .if1 .left) (c .before .before .before .before .before .before .before .before .before .before .before .if2 .left) (c .before .before .before .before .before .before .before .before .before .infer .ensures) (c .before .before .before .before .before .before .before .spot-at .ensures) (c .before .before .before .before .read-token .ensures .0 (c .before .before .before .before .before .before .before .before .before .before .before .before .before .before .before .before .before .before .args .row .now)), c .before .before .before .before .read-token .ensures .1)
 
 pub read-column-spec : {M : Type 1} → statement M
 read-column-spec =
@@ -76,13 +64,9 @@ read-column-spec =
     part-token-start
     part-token-end
     infer-requires
-    sub-t20
-    cast-t14
-    cast-t22
-    add-t23
-    cast-t24
-    cast-t25
-    add-t26
+    cast-spot-at
+    add-spot-at
+    spot-at-requires
     read-token-requires
     same-length
     same-length-2

@@ -24,15 +24,6 @@ abbrev μ-loop : tie.MeasureT-loop
 loop-holds : tie.Need-loop-holds Inv-loop μ-loop
 loop-holds c = (omega arith, λ offset. stretch-first (c .before .before .before .before .args .line .now) (c .before .before .before .before .args .row .now) (c .before .before .before .before .args .parts .now) (c .before .before .before .before .args .out .now) (c .before .before .before .before .args .tally) (c .before .before .before .before .args .number) offset (c .before .before .before .before .args .begin) (c .before .before .before .before .args .first) (c .before .before .before .before .pre .1 .1))
 
-same-length : tie.Need-same-length Inv-loop μ-loop
-same-length c = c .before .before .loop .inv .1 0 .long
-
-same-length-2 : tie.Need-same-length-2 Inv-loop μ-loop
-same-length-2 c = c .before .before .loop .inv .1 0 .wide
-
-returns : tie.Need-returns Inv-loop μ-loop
-returns c = λ offset. stretch-ends (c .before .before .loop .inv .0) (c .before .before .loop .inv .1 offset)
-
 mul-cell : tie.Need-mul-cell Inv-loop μ-loop
 mul-cell c = search needs
 
@@ -60,15 +51,6 @@ shape-of-requires c κs = search needs
 enum-told : tie.Need-enum-told Inv-loop μ-loop
 enum-told c = search needs
 
-same-length-3 : tie.Need-same-length-3 Inv-loop μ-loop
-same-length-3 c = c .before .before .before .before .before .before .before .loop .inv .1 0 .long
-
-same-length-4 : tie.Need-same-length-4 Inv-loop μ-loop
-same-length-4 c = c .before .before .before .before .before .before .before .loop .inv .1 0 .wide
-
-returns-2 : tie.Need-returns-2 Inv-loop μ-loop
-returns-2 c = λ offset. stretch-ends (c .before .before .before .before .before .before .before .loop .inv .0) (c .before .before .before .before .before .before .before .loop .inv .1 offset)
-
 enum-known-shape : tie.Need-enum-known-shape Inv-loop μ-loop
 enum-known-shape c = search needs
 
@@ -87,17 +69,8 @@ loop-again-2 c = (omega (arith, c .before .before .before .before .before .befor
 enum-known-shape-2 : tie.Need-enum-known-shape-2 Inv-loop μ-loop
 enum-known-shape-2 c = search needs
 
-is-plain-requires : tie.Need-is-plain-requires Inv-loop μ-loop
-is-plain-requires c κs = search needs
-
-same-length-5 : tie.Need-same-length-5 Inv-loop μ-loop
-same-length-5 c = c .before .before .before .before .before .before .before .before .before .before .loop .inv .1 0 .long
-
-same-length-6 : tie.Need-same-length-6 Inv-loop μ-loop
-same-length-6 c = c .before .before .before .before .before .before .before .before .before .before .loop .inv .1 0 .wide
-
-returns-3 : tie.Need-returns-3 Inv-loop μ-loop
-returns-3 c = λ offset. stretch-ends (c .before .before .before .before .before .before .before .before .before .before .loop .inv .0) (c .before .before .before .before .before .before .before .before .before .before .loop .inv .1 offset)
+at-once-requires : tie.Need-at-once-requires Inv-loop μ-loop
+at-once-requires c κs = search needs
 
 sub-token : tie.Need-sub-token Inv-loop μ-loop
 sub-token c = let p = piece-at (c .before .before .before .before .before .before .before .before .if1 .left) (note-end _ _ _ (c .before .before .before .before .before .shape-of .ensures) (c .before .before .before .shape2 .given .1)) in omega (arith, p .low, p .high)
@@ -108,47 +81,62 @@ part-token-start c = let p = piece-at (c .before .before .before .before .before
 part-token-end : tie.Need-part-token-end Inv-loop μ-loop
 part-token-end c = let p = piece-at (c .before .before .before .before .before .before .before .before .if1 .left) (note-end _ _ _ (c .before .before .before .before .before .shape-of .ensures) (c .before .before .before .shape2 .given .1)) in omega (arith, p .low, p .high)
 
-sub-t31 : tie.Need-sub-t31 Inv-loop μ-loop
-sub-t31 c = search needs
-
-cast-t28 : tie.Need-cast-t28 Inv-loop μ-loop
-cast-t28 c = omega (arith, c .before .before .before .before .before .before .before .before .shared-slice-known3 .given (c .before .before .before .before .before .before .before .before .before .before .before .loop .i))
-
-cast-t33 : tie.Need-cast-t33 Inv-loop μ-loop
-cast-t33 c = search needs
-
-add-t34 : tie.Need-add-t34 Inv-loop μ-loop
-add-t34 c = omega (arith, c .before .before .before .before .before .before .before .before .before .before .loop-test .taken, c .before .before .before .before .before .before .before .before .before .before .before .before .before .before .before .before .pre .0 .cells-long)
-
-cast-t35 : tie.Need-cast-t35 Inv-loop μ-loop
-cast-t35 c = omega (arith, c .before .before .before .before .before .before .before .before .before .before .loop-test .taken, c .before .before .before .before .before .before .before .before .before .before .before .before .before .before .before .before .pre .0 .cells-long)
+spot-at-requires : tie.Need-spot-at-requires Inv-loop μ-loop
+spot-at-requires c κs = (c .before .before .before .before .before .before .before .if2 .left, omega (arith, c .before .before .before .before .before .before .before .before .before .before .loop-test .taken, c .before .before .before .before .before .before .before .before .before .before .before .before .before .before .before .before .pre .0 .cells-long))
 
 write-plain-requires : tie.Need-write-plain-requires Inv-loop μ-loop
-write-plain-requires c κs = let z = note-end _ _ _ (c .before .before .before .before .before .before .before .before .shape-of .ensures) (c .before .before .before .before .before .before .shape2 .given .1) in let p = piece-at (c .before .before .before .before .before .before .before .before .before .before .before .if1 .left) z in (note-sited (c .before .before .before .before .before .before .before .before .before .before .before .before .before .loop .inv .1 0) (c .before .before .before .before .before .before .before .before .before .before .before .before .loop-test .taken) (c .before .before .before .before .before .before .before .before .before .before .before .if1 .left) (c .before .before .before .before .before .before .before .before .before .before .before .before .before .before .before .before .before .before .pre .0) (c .before .before .before .before .before .before .before .before .before .before .before .before .before .before .before .before .before .before .pre .1 .0) (p .low) (p .high) (c .before .before .before .before .before .before .before .before .before .if2 .left) (c .before .before .before .before .is-plain .ensures (not-false _ (c .before .before .before .if3 .left)) .line), note-column _ (record { index = c .before .before .before .before .before .before .before .before .before .before .before .before .before .loop .i; from = c .before .before .before .before .before .before .before .before .before .before .before .before .before .loop .from; end = c .before .before .before .before .before .before .shape2 .given .0 .0 .end; line = c .before .before .before .before .before .before .before .before .before .before .before .before .before .before .before .before .before .before .args .number; offset = 0 }) _ (c .before .before .before .before .before .before .before .before .shape-of .ensures) z (c .before .before .before .before .before .before .shape2 .given .1))
+write-plain-requires c κs = let z = note-end _ _ _ (c .before .before .before .before .before .before .before .before .before .shape-of .ensures) (c .before .before .before .before .before .before .before .shape2 .given .1) in let p = piece-at (c .before .before .before .before .before .before .before .before .before .before .before .before .if1 .left) z in (rw (c .before .before .spot-at .ensures) (note-sited (c .before .before .before .before .before .before .before .before .before .before .before .before .before .before .loop .inv .1 0) (c .before .before .before .before .before .before .before .before .before .before .before .before .before .loop-test .taken) (c .before .before .before .before .before .before .before .before .before .before .before .before .if1 .left) (c .before .before .before .before .before .before .before .before .before .before .before .before .before .before .before .before .before .before .before .pre .0) (c .before .before .before .before .before .before .before .before .before .before .before .before .before .before .before .before .before .before .before .pre .1 .0) (p .low) (p .high) (c .before .before .before .before .before .before .before .before .before .before .if2 .left) (c .before .before .before .before .before .at-once .ensures (not-false _ (c .before .before .before .before .if3 .left)) .line)), note-column _ (record { index = c .before .before .before .before .before .before .before .before .before .before .before .before .before .before .loop .i; from = c .before .before .before .before .before .before .before .before .before .before .before .before .before .before .loop .from; end = c .before .before .before .before .before .before .before .shape2 .given .0 .0 .end; line = c .before .before .before .before .before .before .before .before .before .before .before .before .before .before .before .before .before .before .before .args .number; offset = 0 }) _ (c .before .before .before .before .before .before .before .before .before .shape-of .ensures) z (c .before .before .before .before .before .before .before .shape2 .given .1))
 
 add-notes : tie.Need-add-notes Inv-loop μ-loop
-add-notes c = omega (arith, c .before .before .before .before .before .before .before .before .before .is-plain .ensures (not-false _ (c .before .before .before .before .before .before .before .before .if3 .left)) .few)
+add-notes c = omega (arith, c .before .before .before .before .before .before .before .before .before .before .at-once .ensures (not-false _ (c .before .before .before .before .before .before .before .before .before .if3 .left)) .few)
 
 add-from-3 : tie.Need-add-from-3 Inv-loop μ-loop
-add-from-3 c = let p = piece-at (c .before .before .before .before .before .before .before .before .before .before .before .before .before .before .before .before .if1 .left) (note-end _ _ _ (c .before .before .before .before .before .before .before .before .before .before .before .before .before .shape-of .ensures) (c .before .before .before .before .before .before .before .before .before .before .before .shape2 .given .1)) in omega (arith, p .high, c .before .before .before .before .before .before .before .before .before .before .before .before .before .before .before .before .before .before .before .before .before .before .before .pre .1 .0)
+add-from-3 c = let p = piece-at (c .before .before .before .before .before .before .before .before .before .before .before .before .before .before .before .before .before .if1 .left) (note-end _ _ _ (c .before .before .before .before .before .before .before .before .before .before .before .before .before .before .shape-of .ensures) (c .before .before .before .before .before .before .before .before .before .before .before .before .shape2 .given .1)) in omega (arith, p .high, c .before .before .before .before .before .before .before .before .before .before .before .before .before .before .before .before .before .before .before .before .before .before .before .before .pre .1 .0)
 
 add-i-3 : tie.Need-add-i-3 Inv-loop μ-loop
-add-i-3 c = omega (arith, c .before .before .before .before .before .before .before .before .before .before .before .before .before .before .before .before .before .loop-test .taken, c .before .before .before .before .before .before .before .before .before .before .before .before .before .before .before .before .before .before .before .before .before .before .before .pre .0 .cells-long)
+add-i-3 c = omega (arith, c .before .before .before .before .before .before .before .before .before .before .before .before .before .before .before .before .before .before .loop-test .taken, c .before .before .before .before .before .before .before .before .before .before .before .before .before .before .before .before .before .before .before .before .before .before .before .before .pre .0 .cells-long)
 
 loop-less-3 : tie.Need-loop-less-3 Inv-loop μ-loop
-loop-less-3 c = omega (arith, c .before .before .before .before .before .before .before .before .before .before .before .before .before .before .before .before .before .loop-test .taken)
+loop-less-3 c = omega (arith, c .before .before .before .before .before .before .before .before .before .before .before .before .before .before .before .before .before .before .loop-test .taken)
 
 loop-again-3 : tie.Need-loop-again-3 Inv-loop μ-loop
-loop-again-3 c = (omega (arith, c .before .before .before .before .before .before .before .before .before .before .before .before .before .before .before .before .before .before .loop .inv .0), λ offset. note-turn (c .before .before .before .before .before .before .before .before .before .before .before .before .before .before .before .before .before .before .loop .inv .1 offset) (c .before .before .before .before .before .before .before .before .before .before .before .before .before .before .before .before .before .loop-test .taken) (c .before .before .before .before .before .before .before .before .before .before .before .before .before .before .before .before .if1 .left) (c .before .before .before .before .before .before .before .before .before .before .before .before .before .shape-of .ensures) (c .before .before .before .before .before .before .before .before .before .before .before .shape2 .given .1) (c .before .before .before .before .before .before .before .before .before .before .before .before .before .before .if2 .left) (c .before .before .before .before .before .before .before .before .before .is-plain .ensures (not-false _ (c .before .before .before .before .before .before .before .before .if3 .left))) (c .before .before .before .before .write-plain .ensures) (c .before .before .before .before .write-plain .kept .1 .1 .1 .0) (c .before .before .before .before .write-plain .kept .1 .1 .1 .1 .1 .1 .0))
+loop-again-3 c = (omega (arith, c .before .before .before .before .before .before .before .before .before .before .before .before .before .before .before .before .before .before .before .loop .inv .0), λ offset. note-turn (c .before .before .before .before .before .before .before .before .before .before .before .before .before .before .before .before .before .before .before .loop .inv .1 offset) (c .before .before .before .before .before .before .before .before .before .before .before .before .before .before .before .before .before .before .loop-test .taken) (c .before .before .before .before .before .before .before .before .before .before .before .before .before .before .before .before .before .if1 .left) (c .before .before .before .before .before .before .before .before .before .before .before .before .before .before .shape-of .ensures) (c .before .before .before .before .before .before .before .before .before .before .before .before .shape2 .given .1) (c .before .before .before .before .before .before .before .before .before .before .before .before .before .before .before .if2 .left) (c .before .before .before .before .before .before .before .before .before .before .at-once .ensures (not-false _ (c .before .before .before .before .before .before .before .before .before .if3 .left))) (c .before .before .before .before .before .before .before .spot-at .ensures) (c .before .before .before .before .write-plain .ensures) (c .before .before .before .before .write-plain .kept .1 .1 .1 .0) (c .before .before .before .before .write-plain .kept .1 .1 .1 .1 .1 .1 .0))
+
+same-length : tie.Need-same-length Inv-loop μ-loop
+same-length c = c .before .loop .inv .1 0 .long
+
+same-length-2 : tie.Need-same-length-2 Inv-loop μ-loop
+same-length-2 c = c .before .loop .inv .1 0 .wide
+
+returns : tie.Need-returns Inv-loop μ-loop
+returns c = λ offset. stretch-ends (c .before .loop .inv .0) (c .before .loop .inv .1 offset)
+
+same-length-3 : tie.Need-same-length-3 Inv-loop μ-loop
+same-length-3 c = c .before .before .loop .inv .1 0 .long
+
+same-length-4 : tie.Need-same-length-4 Inv-loop μ-loop
+same-length-4 c = c .before .before .loop .inv .1 0 .wide
+
+returns-2 : tie.Need-returns-2 Inv-loop μ-loop
+returns-2 c = λ offset. stretch-ends (c .before .before .loop .inv .0) (c .before .before .loop .inv .1 offset)
+
+same-length-5 : tie.Need-same-length-5 Inv-loop μ-loop
+same-length-5 c = c .before .before .before .before .before .before .before .loop .inv .1 0 .long
+
+same-length-6 : tie.Need-same-length-6 Inv-loop μ-loop
+same-length-6 c = c .before .before .before .before .before .before .before .loop .inv .1 0 .wide
+
+returns-3 : tie.Need-returns-3 Inv-loop μ-loop
+returns-3 c = λ offset. stretch-ends (c .before .before .before .before .before .before .before .loop .inv .0) (c .before .before .before .before .before .before .before .loop .inv .1 offset)
 
 same-length-7 : tie.Need-same-length-7 Inv-loop μ-loop
-same-length-7 c = c .before .loop .inv .1 0 .long
+same-length-7 c = c .before .before .before .before .before .before .before .before .before .before .loop .inv .1 0 .long
 
 same-length-8 : tie.Need-same-length-8 Inv-loop μ-loop
-same-length-8 c = c .before .loop .inv .1 0 .wide
+same-length-8 c = c .before .before .before .before .before .before .before .before .before .before .loop .inv .1 0 .wide
 
 returns-4 : tie.Need-returns-4 Inv-loop μ-loop
-returns-4 c = λ offset. stretch-ends (c .before .loop .inv .0) (c .before .loop .inv .1 offset)
+returns-4 c = λ offset. stretch-ends (c .before .before .before .before .before .before .before .before .before .before .loop .inv .0) (c .before .before .before .before .before .before .before .before .before .before .loop .inv .1 offset)
 
 pub read-stretch-spec : {M : Type 1} → statement M
 read-stretch-spec =
@@ -157,9 +145,6 @@ read-stretch-spec =
     Inv-loop
     μ-loop
     loop-holds
-    same-length
-    same-length-2
-    returns
     mul-cell
     shared-slice-read-cell
     token-end-requires
@@ -169,33 +154,32 @@ read-stretch-spec =
     loop-again
     shape-of-requires
     enum-told
-    same-length-3
-    same-length-4
-    returns-2
     enum-known-shape
     add-from-2
     add-i-2
     loop-less-2
     loop-again-2
     enum-known-shape-2
-    is-plain-requires
-    same-length-5
-    same-length-6
-    returns-3
+    at-once-requires
     sub-token
     part-token-start
     part-token-end
-    sub-t31
-    cast-t28
-    cast-t33
-    add-t34
-    cast-t35
+    spot-at-requires
     write-plain-requires
     add-notes
     add-from-3
     add-i-3
     loop-less-3
     loop-again-3
+    same-length
+    same-length-2
+    returns
+    same-length-3
+    same-length-4
+    returns-2
+    same-length-5
+    same-length-6
+    returns-3
     same-length-7
     same-length-8
     returns-4)

@@ -6,7 +6,7 @@ use Rattle.records.proofs.bar_of.Tie as tie
 use Rattle.records.proofs.bar_of.Reads as reads
 use Rattle.records.proofs.bar_of.Lts as lts
 use Rattle.bars.proofs.read_bar.Reads as read-bar-reads
-use Rattle.records.proofs.with_active.Reads as with-active-reads
+use Rattle.state.proofs.with_active.Reads as with-active-reads
 
 -- src/lib.rt:103:39
 slice-aggregate-read-bar : tie.Need-slice-aggregate-read-bar

@@ -3,8 +3,8 @@ use mathlib.Core.Path.{sym, _∙_}
 use native.Mathlib.Omega.{arith}
 use mathlib.Core.Bool.{false≢true}
 use borrow.Author.Tests.{leb-true}
-use Rattle.notes.proofs.is_plain.Statement.{statement}
-use Rattle.notes.proofs.is_plain.Tie as tie
+use Rattle.notes.proofs.at_once.Statement.{statement}
+use Rattle.notes.proofs.at_once.Tie as tie
 
 returns : tie.Need-returns
 returns c = λ e. absurd (false≢true e)
@@ -18,5 +18,5 @@ returns-3 c = λ e. record { line = omega (arith, c .before .before .if1 .left);
 returns-4 : tie.Need-returns-4
 returns-4 c = λ e. record { line = omega (arith, c .before .before .if1 .left); few = omega (arith, c .before .if2 .left); full = λ q. absurd (false≢true (sym (c .if3 .left) ∙ q)) }
 
-pub is-plain-spec : {M : Type 1} → statement M
-is-plain-spec = tie.close (tie.spec returns returns-2 returns-3 returns-4)
+pub at-once-spec : {M : Type 1} → statement M
+at-once-spec = tie.close (tie.spec returns returns-2 returns-3 returns-4)
