@@ -19,15 +19,45 @@ fn notice_number(reason: &str) -> u8 {
     }
 }
 
+/// A refusal as far as the source's message tells it: 4 and 9 are one, as are 5, 11 and 12; 3, 7 and 8 have a line, 6 a line and a count, 1 the length.
+fn refused(number: u32, line: u32, figure: usize) -> String {
+    match number {
+        1 => format!("too large: {figure}"),
+        2 => "not UTF-8".to_string(),
+        3 | 7 | 8 => format!("{number} at line {line}"),
+        4 | 9 => "too wide".to_string(),
+        5 | 11 | 12 => "empty".to_string(),
+        6 => format!("6 at line {line}: {figure}"),
+        _ => "too many notes".to_string(),
+    }
+}
+
+/// The same of the source's message.
+fn by_message(message: &str) -> String {
+    let number_behind = |word: &str| -> usize {
+        let digits = message.split(word).nth(1).unwrap_or("").chars().take_while(char::is_ascii_digit).collect::<String>();
+        digits.parse().unwrap_or(0)
+    };
+    let line = number_behind("line ") as u32;
+    match () {
+        _ if message.contains("exclusive") => refused(3, line, 0),
+        _ if message.contains(" has ") && message.contains("active") => refused(6, line, number_behind(" has ")),
+        _ if message.contains("mixes") => refused(7, line, 0),
+        _ if message.contains("sub-spines") => refused(8, line, 0),
+        _ if message.contains("spines") => refused(9, 0, 0),
+        _ => refused(10, 0, 0),
+    }
+}
+
 /// What the source says of a text, a line for each thing.
 fn of_source(text: &[u8]) -> String {
     let Ok(text) = std::str::from_utf8(text) else {
-        return "not UTF-8".to_string();
+        return refused(2, 0, 0);
     };
     let report = match parse_kern_with_report(text) {
-        Err(acorde_io::Error::Empty) => return "empty".to_string(),
-        Err(acorde_io::Error::TooLarge(_)) => return "too large".to_string(),
-        Err(acorde_io::Error::Xml(_)) => return "malformed".to_string(),
+        Err(acorde_io::Error::Empty) => return refused(5, 0, 0),
+        Err(acorde_io::Error::TooLarge(length)) => return refused(1, 0, length),
+        Err(acorde_io::Error::Xml(message)) => return by_message(&message),
         Ok(report) => report,
     };
     let mut said = String::new();
@@ -139,10 +169,7 @@ fn of_sheet(text: &[u8], sheet: &[u8]) -> String {
 fn of_encoder(text: &[u8]) -> String {
     match encoder::sheet(text) {
         Ok(sheet) => of_sheet(text, &sheet),
-        Err((1, ..)) => "too large".to_string(),
-        Err((2, ..)) => "not UTF-8".to_string(),
-        Err((5 | 11 | 12, ..)) => "empty".to_string(),
-        Err(_) => "malformed".to_string(),
+        Err((number, line, figure)) => refused(number, line, figure),
     }
 }
 

@@ -217,6 +217,10 @@ fn all_interpretations() -> Vec<Case> {
     for tail in ["G:", "e:", "b-:", "B-:", "g\u{e9}:", "g\u{e9}\u{e9}:", "f##:", "f###:", ":", "h:", "*kern"] {
         tokens.push(format!("*{tail}"));
     }
+    // document 01's lines that are not marked P, and both edges of rules
+    for token in ["*M4/+4", "*M0/4", "*M255/128", "*M4/3", "*M004/08", "*M+4/4", "*abcd:"] {
+        tokens.push(token.to_string());
+    }
     tokens.sort();
     tokens.dedup();
     let path = ["*^", "*v", "*x", "*-", "*+"];

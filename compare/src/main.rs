@@ -84,11 +84,13 @@ const PICKED: [&str; 40] = [
 fn sample(kind: &str, requests: &str, answers: &str) -> ExitCode {
     let (mut input, mut output) = (Vec::new(), Vec::new());
     let many = if kind == "leaves" { 90 } else { 600 };
+    let mut met = 0;
     for (_, cases) in cases_of(kind) {
         // every case where there are few, else so many spread over all
         let step = cases.len().div_ceil(many);
         for (index, case) in cases.iter().enumerate() {
             let picked = PICKED.iter().any(|p| p.as_bytes() == case.request);
+            met += usize::from(picked);
             if (index % step == 0 || picked) && case.request.len() < 200 {
                 input.extend_from_slice(&case.request);
                 input.push(b'\n');
@@ -97,6 +99,7 @@ fn sample(kind: &str, requests: &str, answers: &str) -> ExitCode {
             }
         }
     }
+    assert!(kind != "leaves" || met == PICKED.len(), "{met} of the {} picked requests are among all", PICKED.len());
     std::fs::write(requests, input).unwrap();
     std::fs::write(answers, output).unwrap();
     ExitCode::SUCCESS

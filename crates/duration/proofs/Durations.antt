@@ -115,3 +115,12 @@ module _ (s : List ℕ) (n : ℕ) (is : Is n ≡ numberOf s) where
       ap written (sym worth)
       ∙ worth-value s
       (record { each = each-digit s all; some = some-digit s pos; few = l; low = pos; high = omega (arith, worth) })
+
+-- digits, and the number that they write
+pub told : (s : List ℕ) {n : ℕ} → digits s ≡ true → number s ≡ n → Is n ≡ numberOf s
+unfolding numberOf
+told s d e = rw (d, e)
+
+pub parsed : (s : List ℕ) {n : ℕ} → Is n ≡ numberOf s → (digits s ≡ true) × (number s ≡ n)
+unfolding numberOf
+parsed s {n} e = is-number (digits s) (number s) n e

@@ -1,7 +1,10 @@
 // Durations: the value that a reciprocal writes, and how long a note lasts.
 ghost use mathlib.Core.Path.{_≡_};
-ghost use Prim.Native.Nat.{_+_, _<_, _≤_, _^_};
-ghost use Rattle.duration.specs.Duration.{numberOf, gcdOf, written, durationOf};
+ghost use mathlib.Core.Bool.{true};
+ghost use mathlib.Core.List.{List};
+ghost use Prim.Native.Nat.{ℕ, _+_, _<_, _≤_, _^_};
+ghost use lib.ListN.{length};
+ghost use Rattle.duration.specs.Duration.{digits, number, numberOf, gcdOf, written, durationOf};
 ghost use Rattle.duration.specs.Length.{valueLength, dotFactor, tupletFactor, noteLength};
 
 // A written value (0 longa, 1 breve, 2 whole, .. 9 128th) with its tuplet.
@@ -85,6 +88,28 @@ fn value_of(n: u32) -> Value
     }
 }
 
+// The value of a reciprocal of so many digits that write n; Missing where there is none.
+pub fn value_by(n: u32, long: usize) -> Value
+    ensures { λ r. ⌜ ((s : List ℕ) → digits s ≡ true → number s ≡ n → length s ≡ long → r ≡ durationOf s) ⌝ }
+{
+    if 4 < long {
+        return Value::Missing;
+    }
+    if n == 0 {
+        if long == 1 {
+            return Value::Plain(1);
+        }
+        if long == 2 {
+            return Value::Plain(0);
+        }
+        return Value::Missing;
+    }
+    if 255 < n {
+        return Value::Missing;
+    }
+    value_of(n)
+}
+
 // The value that a reciprocal's digits write; Missing where they write none.
 pub fn kern_duration(digits: &[u8]) -> Value
     ensures { λ r. ⌜ r ≡ durationOf (now (digits .entry)) ⌝ }
@@ -94,21 +119,7 @@ pub fn kern_duration(digits: &[u8]) -> Value
     }
     match parse(digits) {
         Number::Not => Value::Missing,
-        Number::Is(n) => {
-            if n == 0 {
-                if digits.len() == 1 {
-                    return Value::Plain(1);
-                }
-                if digits.len() == 2 {
-                    return Value::Plain(0);
-                }
-                return Value::Missing;
-            }
-            if 255 < n {
-                return Value::Missing;
-            }
-            value_of(n)
-        }
+        Number::Is(n) => value_by(n, digits.len()),
     }
 }
 

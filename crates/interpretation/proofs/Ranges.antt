@@ -22,7 +22,7 @@ use Rattle.interpretation.specs.Clef.{clefs, clefOf}
 use Rattle.interpretation.specs.Key.{occurrences, endsWith, withoutLast, fifthsOf, signatureOf, keyOf, tonicMode, modeOf}
 use Rattle.interpretation.specs.Meter.{powerBelow, powerOfTwo, withoutPlus, meterFrom, meterOf, symbols, symbolOf}
 use Rattle.interpretation.specs.Tempo.{rounded, tempoFrom, tempoOf}
-use Rattle.interpretation.specs.Interpretation.{clefMark, keyMark, symbolMark, tempoMark, nameMark, shortNameMark, meterMark, isAttribute, otherOf, meaningOf, interpretationOf, noticeOf}
+use Rattle.interpretation.specs.Interpretation.{clefMark, keyMark, symbolMark, tempoMark, nameMark, shortNameMark, meterMark, isAttribute, otherOf, meaningOf, interpretationOf}
 use Rattle.interpretation.specs.declared.Interpretation.{Interpretation}
 use Rattle.interpretation.specs.declared.Interpretation.the-variants.{Nothing, Clef, Key, Meter, Symbol, Tempo, Name, ShortName, Mode, Notice}
 use Rattle.interpretation.specs.declared.digits.Number.{Number}
@@ -164,5 +164,3 @@ ranged token noted =
     (either (eqb (length (drop 1 token)) 0) (record { range = tt })
     (either (noted && isAttribute (drop 1 token)) (notice 8 (omega arith) (omega arith)) (meaning-range (drop 1 token))))
     .range
-
--- so no notice's number is above 15

@@ -68,16 +68,3 @@ interpretationOf token noted =
 unfoldable pub computed : List ℕ → Bool → Interpretation
 unfolding beginsWith sameBytes indexOf isDigit allDigits decimalOn decimal byteNumber placeFrom placeOf clefs clefOf occurrences endsWith withoutLast fifthsOf signatureOf keyOf tonicMode modeOf powerBelow powerOfTwo withoutPlus meterFrom meterOf symbols symbolOf rounded tempoFrom tempoOf meterMark isAttribute otherOf meaningOf interpretationOf
 computed token noted = interpretationOf token noted
-
--- document 01's number of a notice, 0 of what gives none
-unfoldable pub noticeOf : Interpretation → ℕ
-noticeOf Nothing = 0
-noticeOf (Clef n) = 0
-noticeOf (Key n) = 0
-noticeOf (Meter n d) = 0
-noticeOf (Symbol n) = 0
-noticeOf (Tempo n) = 0
-noticeOf Name = 0
-noticeOf ShortName = 0
-noticeOf (Mode n) = 0
-noticeOf (Notice n) = n

@@ -50,6 +50,15 @@ pub fn put_articulations(out: &mut [u8], token: &[u8])
     fill_articulations(out, token);
 }
 
+// Bytes at k; the place behind them.
+fn put_run(out: &mut [u8], k: usize, run: &[u8]) -> usize
+    requires { ⌜ k + length (now run) ≤ length (now out) ⌝ }
+    ensures { λ r. ⌜ (now (out .exit) ≡ sets (now (out .entry)) k (now (run .entry))) × (r ≡ k + length (now (run .entry))) ⌝ }
+{
+    slices::put(&mut out[k..], run);
+    k + run.len()
+}
+
 // The signifiers of a token, for which there is room.
 pub fn fill_signifiers(out: &mut [u8], token: &[u8])
     requires { ⌜ length (signifierBytes (now token)) ≤ length (now out) ⌝ }
@@ -79,6 +88,12 @@ pub fn fill_signifiers(out: &mut [u8], token: &[u8])
         if b == b' ' {
             sounding = false;
             i += 1;
+            continue;
+        }
+        if token::scan::is_odd(b) {
+            let end = token::scan::odd_end(token, i);
+            k = put_run(out, k, &token[i..end]);
+            i = end;
             continue;
         }
         if token::scan::passes(sounding, b) {
@@ -188,6 +203,10 @@ pub fn fill_pitches(out: &mut [u8], token: &[u8])
             k = put_sound(out, k, sound);
             sound = Sound::Silence;
             i += 1;
+            continue;
+        }
+        if token::scan::is_odd(b) {
+            i = token::scan::odd_end(token, i);
             continue;
         }
         sound = sign(sound, b);

@@ -3,7 +3,7 @@ use mathlib.Core.Path.{_≡_, refl, sym, ap, _∙_}
 use Prim.Native.Nat.{ℕ, _+_, _-_, _≤_, _<_}
 use native.Mathlib.Omega.{arith}
 use mathlib.Core.List.{List, [], _∷_, _++_}
-use mathlib.Core.Bool.{Bool, true, false}
+use mathlib.Core.Bool.{Bool, true, false, _&&_}
 use lib.Dec.{eqb, ltb}
 use lib.ListN.{length, drop, getD, take-append-drop}
 use lib.Seq.{drop-drop}
@@ -13,12 +13,14 @@ use Rattle.slices.specs.Compare.{sameBytes}
 use Rattle.slices.proofs.SplitLaws.{find-here, find-end}
 use Rattle.lines.specs.Lines.{pieceEnd}
 use Rattle.lines.specs.Tokens.{isNull}
-use Rattle.duration.specs.Duration.{durationOf}
+use Rattle.duration.specs.Duration.{digit, digits, number, numberFrom, durationOf}
+use Rattle.duration.specs.declared.Value.{Value}
+use Rattle.notation.specs.Search.{contains}
 use Rattle.pitch.specs.Pitch.{pitchOf}
 use Rattle.pitch.specs.declared.Pitch.{Pitch}
 use Rattle.pitch.specs.declared.Pitch.the-variants.{At}
 use Rattle.plain.specs.Plain.{ShapeAt}
-use Rattle.plain.specs.Usual.{digitBytes, Run, opened, Said, saidBy, carried, Marking, Signing, rests, sings, SungAt, Parts, Closed, Tail, TailAt}
+use Rattle.plain.specs.Usual.{digitBytes, digitBy, allIn, Run, opened, Said, saidBy, carried, Marking, Numbering, Signing, rests, sings, SungAt, Parts, Closed, Tail, TailAt}
 use Rattle.plain.specs.declared.Opening.{Opening}
 use Rattle.plain.specs.declared.Valued.{Valued}
 use Rattle.plain.specs.declared.Sung.{Sung}
@@ -26,7 +28,7 @@ use Rattle.plain.specs.declared.Plain.{Plain}
 use Rattle.plain.specs.declared.Shape.{Shape}
 use Rattle.plain.specs.declared.Shape.the-variants.{Other, Null, Note}
 use Rattle.plain.proofs.PieceLaws.{piece-none, piece-join, piece-more, piece-length}
-use Rattle.plain.proofs.ByteLaws.{each}
+use Rattle.plain.proofs.ByteLaws.{each, each-in}
 use Rattle.plain.proofs.AspectLaws.{each-head, each-tail, differs}
 use Rattle.plain.proofs.BodyLaws.{Body, body-of}
 use Rattle.plain.proofs.TokenLaws.{tabless, plain-token}
@@ -96,6 +98,26 @@ sung-pitch {line} {from} {to} {c} {step} {octave} {alter} {end} {p} r s e q =
             alter = s .same;
           }) refl;
     }
+
+-- ---- the length that digits write
+digits-in : (xs : List ℕ) → allIn digitBytes xs ≡ true → digits xs ≡ true
+unfolding digits each contains
+digits-in xs h = same xs ∙ each-in digit digitBytes xs refl h
+  where
+    same : (ys : List ℕ) → digits ys ≡ each digit ys
+    same [] = refl
+    same (y ∷ ys) = ap (λ (t : Bool). digit y && t) (same ys)
+
+number-by : (n : ℕ) (xs : List ℕ) → carried digitBy n xs ≡ numberFrom n xs
+unfolding carried numberFrom
+number-by n [] = refl
+number-by n (x ∷ xs) = number-by (digitBy n x) xs
+
+pub reciprocal-value : {line : List ℕ} {from n end : ℕ} {v : Value} → Numbering line from n end
+    → ((s : List ℕ) → digits s ≡ true → number s ≡ n → length s ≡ end - from → v ≡ durationOf s) → v ≡ durationOf (pieceAt line from (end - from))
+reciprocal-value {line} {from} {n} {end} r h =
+    let ds : List ℕ = pieceAt line from (end - from) in
+    h ds (digits-in ds (r .run .inside)) (sym (number-by 0 ds) ∙ r .same) (piece-length line from end (r .run .low) (r .run .high))
 
 -- ---- a note
 module _ {line : List ℕ} {from digits to sound : ℕ} (opening : Opening) (v : Valued) (o : Marking line from (opened false false) (opened (opening .ties) (opening .slurs)) digits) (d : Run digitBytes line digits to) (some : digits < to) (parts : Parts (durationOf (pieceAt line digits (to - digits))) v) (found : v .missing ≡ false) (dot : Run (46 ∷ []) line to sound) (few : sound - to ≤ 3) where

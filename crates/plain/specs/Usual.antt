@@ -1,6 +1,6 @@
 -- The parts of a token of the usual shape: runs of bytes out of a word, and what they say.
 use mathlib.Core.Path.{_≡_}
-use Prim.Native.Nat.{ℕ, _+_, _-_, _≤_, _<_}
+use Prim.Native.Nat.{ℕ, _+_, _-_, _*_, _≤_, _<_}
 use mathlib.Core.List.{List, [], _∷_, _++_}
 use mathlib.Core.Bool.{Bool, true, false, cond, _&&_, _||_}
 use lib.Dec.{eqb, ltb}
@@ -104,6 +104,13 @@ pub record Carried (S : Type 0) (step : S → ℕ → S) (word line : List ℕ) 
 
 abbrev pub Marking : List ℕ → ℕ → Said → Said → ℕ → Type 0
 Marking line from fresh s end = Carried Said saidBy markBytes line from fresh s end
+
+-- the number that digits write
+abbrev pub digitBy : ℕ → ℕ → ℕ
+digitBy n b = n * 10 + (b - 48)
+
+abbrev pub Numbering : List ℕ → ℕ → ℕ → ℕ → Type 0
+Numbering line from n end = Carried ℕ digitBy digitBytes line from 0 n end
 
 abbrev pub Signing : List ℕ → ℕ → ℕ → ℕ → Type 0
 Signing line from alter end = Carried ℕ alteredBy signBytes line from 128 alter end

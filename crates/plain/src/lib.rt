@@ -10,7 +10,7 @@ ghost use mathlib.Core.List.{[], _∷_};
 ghost use lib.ListN.{length};
 ghost use Rattle.notation.specs.Search.{contains};
 ghost use Rattle.plain.specs.Plain.{ShapeAt};
-ghost use Rattle.plain.specs.Usual.{digitBytes, oddBytes, signBytes, Run, opened, saidOf, Marking, Signing, SungAt, Parts, noteFrom, Closed, TailAt};
+ghost use Rattle.plain.specs.Usual.{oddBytes, signBytes, Run, opened, saidOf, Marking, Numbering, Signing, SungAt, Parts, noteFrom, Closed, TailAt};
 
 // A note of one pitch or a rest, whether L and J and odd marks stand in its token, and where the token ends.
 pub struct Plain {
@@ -46,6 +46,12 @@ struct Marked {
     ends: bool,
     articulations: usize,
     odd: bool,
+    end: usize,
+}
+
+// The number that digits write, and where they end.
+struct Reciprocal {
+    number: u32,
     end: usize,
 }
 
@@ -104,14 +110,20 @@ fn openings(line: &[u8], from: usize) -> Opening
     }
 }
 
-// Whether a byte is an odd mark.
-fn is_odd(b: u8) -> bool
+// How many marks are read at one go once there are odd ones among them; more of them are left to the scan, which goes by runs.
+const FEW: usize = 64;
+
+// Whether a byte is an odd mark, and has few marks before it.
+fn is_odd(b: u8, before: usize) -> bool
     ensures { λ r. ⌜ (r ≡ true → contains b oddBytes ≡ true) ⌝ }
 {
     if b < 33 {
         return false;
     }
     if 126 < b {
+        return false;
+    }
+    if FEW < before {
         return false;
     }
     token::scan::is_odd(b)
@@ -158,7 +170,7 @@ fn marks(line: &[u8], from: usize, tying: bool, slurring: bool) -> Marked
         } else if token::scan::articulation(b) < 5 {
             articulations += 1;
             i += 1;
-        } else if is_odd(b) {
+        } else if is_odd(b, i - from) {
             odd = true;
             i += 1;
         } else {
@@ -188,23 +200,28 @@ fn marks(line: &[u8], from: usize, tying: bool, slurring: bool) -> Marked
     }
 }
 
-// Where the digits from an index on end.
-fn digits_end(line: &[u8], from: usize) -> usize
+// The digits from an index on; none is read behind a number above 999.
+fn reciprocal_at(line: &[u8], from: usize) -> Reciprocal
     requires { ⌜ from ≤ length (now line) ⌝ }
-    ensures { λ r. ⌜ Run digitBytes (now (line .entry)) from r ⌝ }
+    ensures { λ r. ⌜ Numbering (now (line .entry)) from (r .number) (r .end) ⌝ }
 {
+    let mut number = 0u32;
     let mut i = from;
     while i < line.len() {
         let b = line[i];
         if b < b'0' {
-            return i;
+            return Reciprocal { number, end: i };
         }
         if b'9' < b {
-            return i;
+            return Reciprocal { number, end: i };
         }
+        if 999 < number {
+            return Reciprocal { number, end: i };
+        }
+        number = number * 10 + (b - 48) as u32;
         i += 1;
     }
-    i
+    Reciprocal { number, end: i }
 }
 
 // Where the bytes b from an index on end.
@@ -425,11 +442,12 @@ pub fn shape_of(line: &[u8], from: usize) -> Shape
     }
     let opening = openings(line, from);
     let digits = opening.end;
-    let to = digits_end(line, digits);
+    let reciprocal = reciprocal_at(line, digits);
+    let to = reciprocal.end;
     if to == digits {
         return Shape::Other;
     }
-    let v = parts_of(duration::kern_duration(&line[digits..to]));
+    let v = parts_of(duration::value_by(reciprocal.number, to - digits));
     if v.missing {
         return Shape::Other;
     }

@@ -53,13 +53,13 @@ module _ (b : ℕ) (o : isOdd b ≡ true) where
   other : (x : ℕ) → isOdd x ≡ false → b ≡ x → ⊥
   other x n e = true≢false (sym o ∙ ap isOdd e ∙ n)
 
-  is-not : (x : ℕ) → isOdd x ≡ false → eqb b x ≡ false
+  pub is-not : (x : ℕ) → isOdd x ≡ false → eqb b x ≡ false
   is-not x n = ne-eqb b x (other x n)
 
   not-is : (x : ℕ) → isOdd x ≡ false → eqb x b ≡ false
   not-is x n = ne-eqb x b (λ e. other x n (sym e))
 
-  plain : (isDigit b ≡ false) × (isLetter b ≡ false) × (contains b signs ≡ false) × (contains b known ≡ false)
+  pub plain : (isDigit b ≡ false) × (isLetter b ≡ false) × (contains b signs ≡ false) × (contains b known ≡ false)
   unfolding isOdd
   plain = none (isDigit b) (isLetter b) (contains b (ascii " %")) (contains b signs) (contains b known) o
 
@@ -86,7 +86,7 @@ module _ (b : ℕ) (o : isOdd b ≡ true) where
 
 -- ---- the turn over all of them
 module _ (token : List ℕ) where
-  next-odd : (i : ℕ) → i < length token → isOdd (getD token i 0) ≡ true → record { item = Mark (getD token i 0); end = i + 1 } ≡ nextItem token i
+  pub next-odd : (i : ℕ) → i < length token → isOdd (getD token i 0) ≡ true → record { item = Mark (getD token i 0); end = i + 1 } ≡ nextItem token i
   unfolding contains isOdd isLetter within
   next-odd i h o =
       let p = plain (getD token i 0) o in

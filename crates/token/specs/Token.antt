@@ -26,7 +26,7 @@ badLength had behind (Letters c n ∷ is) = badLength had false is
 badLength had behind (Blank ∷ is) = badLength false false is
 badLength had behind (Mark b ∷ is) = eqb b 37 && behind || badLength had false is
 
--- ---- the first sub-token, which alone "counts for length, dots and rest"
+-- ---- the first sub-token, whose length, dots and rest are the token's: "chord length from its first sub-token"
 abbrev pub isBlank : Item → Bool
 isBlank (Digits v) = false
 isBlank (Letters c n) = false

@@ -14,6 +14,7 @@ use Rattle.lists.specs.Lists.{pitchBytes, soundBytes}
 use Rattle.lists.proofs.FillLaws.{fill-as, fill-length, fill-room, fill-turn, fill-past, Writing, write-first, write-room, write-on, write-turn, write-left}
 use Rattle.lists.proofs.ItemLaws.{heard-none}
 use Rattle.lists.proofs.CountLaws.{note-bytes, heardBytes, heard-next}
+use Rattle.lists.proofs.OddLaws.{odds-past}
 use Rattle.lists.proofs.fill_pitches.Statement.{statement}
 use Rattle.lists.proofs.fill_pitches.Tie as tie
 
@@ -74,17 +75,29 @@ loop-less-3 c = omega (arith, c .before .before .before .before .before .before 
 loop-again-3 : tie.Need-loop-again-3 Inv-loop μ-loop
 loop-again-3 c = write-turn (c .before .before .before .before .before .before .before .before .before .before .before .loop .inv) (soundBytes (c .before .before .before .before .before .before .before .before .before .before .before .loop .sound)) (heardBytes Silence) (next-at (c .before .before .before .before .before .before .before .before .before .before .loop-test .taken) (next-blank _ _ (c .before .before .before .before .before .before .before .before .before .before .loop-test .taken) (c .before .before .before .before .before .before .before .before .is-digit .ensures) (c .before .before .before .before .before .before .before .if1 .left) (c .before .before .before .before .before .before .is-letter .ensures) (c .before .before .before .before .before .if2 .left) (c .before .before .before .before .if3 .taken))) (heard-next (c .before .before .before .before .before .before .before .before .before .before .before .loop .sound) Blank refl) (c .before .before .put-sound .ensures .0) (c .before .before .put-sound .ensures .1)
 
+is-odd-requires : tie.Need-is-odd-requires Inv-loop μ-loop
+is-odd-requires c κs = search needs
+
+odd-end-requires : tie.Need-odd-end-requires Inv-loop μ-loop
+odd-end-requires c κs = (c .before .before .before .before .before .before .before .before .loop-test .taken, sym (c .before .is-odd .ensures) ∙ c .if4 .taken)
+
+loop-less-4 : tie.Need-loop-less-4 Inv-loop μ-loop
+loop-less-4 c = omega (arith, c .before .before .before .before .before .before .before .before .before .loop-test .taken, c .odd-end .ensures .on, c .odd-end .ensures .high)
+
+loop-again-4 : tie.Need-loop-again-4 Inv-loop μ-loop
+loop-again-4 c = odds-past (c .odd-end .ensures) (c .before .before .before .before .before .before .before .before .before .before .loop .sound) (c .before .before .before .before .before .before .before .before .before .before .loop .inv)
+
 sign-requires : tie.Need-sign-requires Inv-loop μ-loop
 sign-requires c κs = search needs
 
 add-i-2 : tie.Need-add-i-2 Inv-loop μ-loop
-add-i-2 c = omega (arith, c .before .before .before .before .before .before .before .loop-test .taken)
+add-i-2 c = omega (arith, c .before .before .before .before .before .before .before .before .before .loop-test .taken)
 
-loop-less-4 : tie.Need-loop-less-4 Inv-loop μ-loop
-loop-less-4 c = omega (arith, c .before .before .before .before .before .before .before .loop-test .taken)
+loop-less-5 : tie.Need-loop-less-5 Inv-loop μ-loop
+loop-less-5 c = omega (arith, c .before .before .before .before .before .before .before .before .before .loop-test .taken)
 
-loop-again-4 : tie.Need-loop-again-4 Inv-loop μ-loop
-loop-again-4 c = write-on (c .before .before .before .before .before .before .before .before .loop .inv) _ (next-at (c .before .before .before .before .before .before .before .loop-test .taken) (next-mark _ _ (c .before .before .before .before .before .before .before .loop-test .taken) (c .before .before .before .before .before .is-digit .ensures) (c .before .before .before .before .if1 .left) (c .before .before .before .is-letter .ensures) (c .before .before .if2 .left) (c .before .if3 .left))) (heard-next (c .before .before .before .before .before .before .before .before .loop .sound) (Mark _) (c .sign .ensures))
+loop-again-5 : tie.Need-loop-again-5 Inv-loop μ-loop
+loop-again-5 c = write-on (c .before .before .before .before .before .before .before .before .before .before .loop .inv) _ (next-at (c .before .before .before .before .before .before .before .before .before .loop-test .taken) (next-mark _ _ (c .before .before .before .before .before .before .before .before .before .loop-test .taken) (c .before .before .before .before .before .before .before .is-digit .ensures) (c .before .before .before .before .before .before .if1 .left) (c .before .before .before .before .before .is-letter .ensures) (c .before .before .before .before .if2 .left) (c .before .before .before .if3 .left))) (heard-next (c .before .before .before .before .before .before .before .before .before .before .loop .sound) (Mark _) (c .sign .ensures))
 
 put-sound-requires-2 : tie.Need-put-sound-requires-2 Inv-loop μ-loop
 put-sound-requires-2 c κs = fill-room (soundBytes (c .before .before .loop .sound)) [] (fill-as (heard-none (c .before .before .loop .sound)) (write-left (c .before .before .loop .inv) (c .before .loop-test .left)))
@@ -118,10 +131,14 @@ fill-pitches-spec =
     add-i
     loop-less-3
     loop-again-3
-    sign-requires
-    add-i-2
+    is-odd-requires
+    odd-end-requires
     loop-less-4
     loop-again-4
+    sign-requires
+    add-i-2
+    loop-less-5
+    loop-again-5
     put-sound-requires-2
     same-length
     returns)

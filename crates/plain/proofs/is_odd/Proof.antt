@@ -33,11 +33,14 @@ returns c = λ e. absurd (clash e refl)
 returns-2 : tie.Need-returns-2
 returns-2 c = λ e. absurd (clash e refl)
 
+returns-3 : tie.Need-returns-3
+returns-3 c = λ e. absurd (clash e refl)
+
 is-odd-requires : tie.Need-is-odd-requires
 is-odd-requires c κs = search needs
 
-returns-3 : tie.Need-returns-3
-returns-3 c = λ e. spelled _ (c .before .before .if1 .left) (c .before .if2 .left) (sym (c .is-odd .ensures) ∙ e)
+returns-4 : tie.Need-returns-4
+returns-4 c = λ e. spelled _ (c .before .before .before .if1 .left) (c .before .before .if2 .left) (sym (c .is-odd .ensures) ∙ e)
 
 pub is-odd-spec : {M : Type 1} → statement M
-is-odd-spec = tie.close (tie.spec returns returns-2 is-odd-requires returns-3)
+is-odd-spec = tie.close (tie.spec returns returns-2 returns-3 is-odd-requires returns-4)

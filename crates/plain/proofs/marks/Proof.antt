@@ -110,6 +110,9 @@ loop-less-8 c = search needs
 loop-again-8 : tie.Need-loop-again-8 Inv-loop μ-loop
 loop-again-8 c = (carried-turn (c .before .before .before .before .before .before .before .before .before .before .before .loop .inv .0) (search needs) (articulation-mark _ (small _ _ (c .before .articulation .ensures) (c .if8 .taken))) (said-articulation _ _ (small _ _ (c .before .articulation .ensures) (c .if8 .taken))), omega arith)
 
+sub-is-odd : tie.Need-sub-is-odd Inv-loop μ-loop
+sub-is-odd c = omega (arith, c .before .before .before .before .before .before .before .before .before .before .before .loop .inv .0 .run .low)
+
 is-odd-requires : tie.Need-is-odd-requires Inv-loop μ-loop
 is-odd-requires c κs = search needs
 
@@ -162,6 +165,7 @@ marks-spec =
     add-i-8
     loop-less-8
     loop-again-8
+    sub-is-odd
     is-odd-requires
     add-i-9
     loop-less-9

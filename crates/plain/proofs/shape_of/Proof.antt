@@ -4,7 +4,7 @@ use native.Mathlib.Omega.{arith}
 use borrow.Author.Needs.{needs}
 use Rattle.duration.specs.declared.Value.{Value}
 use Rattle.plain.specs.Usual.{Parts}
-use Rattle.plain.proofs.LineLaws.{null-shape, shape-is}
+use Rattle.plain.proofs.LineLaws.{null-shape, reciprocal-value, shape-is}
 use Rattle.plain.proofs.shape_of.Statement.{statement}
 use Rattle.plain.proofs.shape_of.Tie as tie
 
@@ -20,8 +20,8 @@ add-closes c = search needs
 closes-requires : tie.Need-closes-requires
 closes-requires c κs = search needs
 
-add-t14 : tie.Need-add-t14
-add-t14 c = search needs
+add-t15 : tie.Need-add-t15
+add-t15 c = search needs
 
 returns-2 : tie.Need-returns-2
 returns-2 c = null-shape _ _ (search needs) (c .before .before .if2 .taken) (c .before .closes .ensures (c .if3 .taken))
@@ -32,23 +32,17 @@ returns-3 c = search needs
 openings-requires : tie.Need-openings-requires
 openings-requires c κs = search needs
 
-digits-end-requires : tie.Need-digits-end-requires
-digits-end-requires c κs = search needs
+reciprocal-at-requires : tie.Need-reciprocal-at-requires
+reciprocal-at-requires c κs = search needs
 
 returns-4 : tie.Need-returns-4
 returns-4 c = search needs
 
-sub-kern-duration : tie.Need-sub-kern-duration
-sub-kern-duration c = search needs
+sub-value-by : tie.Need-sub-value-by
+sub-value-by c = search needs
 
-part-kern-duration-start : tie.Need-part-kern-duration-start
-part-kern-duration-start c = search needs
-
-part-kern-duration-end : tie.Need-part-kern-duration-end
-part-kern-duration-end c = search needs
-
-kern-duration-requires : tie.Need-kern-duration-requires
-kern-duration-requires c κs = search needs
+value-by-requires : tie.Need-value-by-requires
+value-by-requires c κs = search needs
 
 parts-of-requires : tie.Need-parts-of-requires
 parts-of-requires c κs = search needs
@@ -76,8 +70,8 @@ sounded-requires c κs = search needs
 
 returns-7 : tie.Need-returns-7
 returns-7 c =
-    shape-is (c .before .before .before .before .before .before .before .before .before .openings .result) (c .before .before .before .before .parts-of .result) (c .before .before .before .before .before .before .before .before .before .openings .ensures) (c .before .before .before .before .before .before .before .before .digits-end .ensures) (omega (arith, c .before .before .before .before .before .before .before .before .digits-end .ensures .low, c .before .before .before .before .before .before .before .if4 .left))
-    (subst (λ (w : Value). Parts w (c .before .before .before .before .parts-of .result)) (c .before .before .before .before .before .kern-duration .ensures) (c .before .before .before .before .parts-of .ensures)) (c .before .before .before .if5 .left) (c .before .before .run-end .ensures) (omega arith) (c .sounded .result) (c .sounded .ensures)
+    shape-is (c .before .before .before .before .before .before .before .before .openings .result) (c .before .before .before .before .parts-of .result) (c .before .before .before .before .before .before .before .before .openings .ensures) (c .before .before .before .before .before .before .before .reciprocal-at .ensures .run) (omega (arith, c .before .before .before .before .before .before .before .reciprocal-at .ensures .run .low, c .before .before .before .before .before .before .if4 .left))
+    (subst (λ (w : Value). Parts w (c .before .before .before .before .parts-of .result)) (reciprocal-value (c .before .before .before .before .before .before .before .reciprocal-at .ensures) (c .before .before .before .before .before .value-by .ensures)) (c .before .before .before .before .parts-of .ensures)) (c .before .before .before .if5 .left) (c .before .before .run-end .ensures) (omega arith) (c .sounded .result) (c .sounded .ensures)
 
 pub shape-of-spec : {M : Type 1} → statement M
 shape-of-spec =
@@ -87,16 +81,14 @@ shape-of-spec =
     shared-slice-read-if2
     add-closes
     closes-requires
-    add-t14
+    add-t15
     returns-2
     returns-3
     openings-requires
-    digits-end-requires
+    reciprocal-at-requires
     returns-4
-    sub-kern-duration
-    part-kern-duration-start
-    part-kern-duration-end
-    kern-duration-requires
+    sub-value-by
+    value-by-requires
     parts-of-requires
     returns-5
     run-end-requires
