@@ -29,7 +29,6 @@ use Rattle.repair.specs.declared.Repaired.the-variants.{Even}
 use Rattle.repair.proofs.WidthLaws.{even-width, record-tokens}
 use Rattle.reading.specs.Bars.{isKernSpine}
 use Rattle.reading.specs.Header.{freshParts}
-use Rattle.reading.specs.Notices.{Token, placed}
 use Rattle.account.specs.Rows.{Numbered, isRecord, pathsFrom, rowAfter}
 use Rattle.account.specs.Account.{kernColumns}
 use Rattle.account.proofs.DataLaws.{Column, Columns}

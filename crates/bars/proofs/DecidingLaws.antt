@@ -6,7 +6,7 @@ use native.Mathlib.Omega.{arith}
 use mathlib.Core.Bool.{Bool, true, false, cond}
 use mathlib.Core.List.{List, [], _∷_, _++_, headD}
 use lib.Dec.{ltb}
-use lib.ListN.{length, take, drop, getD, replicate, drop-of-length-le, length-map}
+use lib.ListN.{length, take, drop, getD, replicate, drop-of-length-le}
 use borrow.Author.Tests.{ne-eqb}
 use Rattle.slices.specs.Split.{split, pieces, pieceAt}
 use Rattle.slices.proofs.SplitLaws.{first-piece, no-piece, all-pieces}

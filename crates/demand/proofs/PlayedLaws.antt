@@ -10,7 +10,7 @@ use borrow.Author.Tests.{le-leb}
 use Rattle.slices.specs.Store.{stored}
 use Rattle.sheet.specs.Record.{Record, headBytes, recordsBytes}
 use Rattle.sheet.specs.Player.{headOf, notesOf, sheetNotes}
-use Rattle.sheet.specs.Fits.{All, HeadFits, Fits}
+use Rattle.sheet.specs.Fits.{HeadFits}
 use Rattle.sheet.specs.declared.Head.{Head}
 use Rattle.sheet.proofs.HeadLaws.{head-length}
 use Rattle.sheet.proofs.SheetLaws.{sheet-head, sheet-notes}

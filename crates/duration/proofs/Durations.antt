@@ -1,4 +1,4 @@
--- The ways out of `kern_duration`: what its tests on the length and the number say of the value.
+-- The ways out of `value_by`: what its tests on the length and the number say of the value.
 use mathlib.Core.Path.{_≡_, refl, sym, ap, _∙_}
 use mathlib.Core.Bool.{Bool, true, false, cond}
 use mathlib.Core.List.{List, [], _∷_}

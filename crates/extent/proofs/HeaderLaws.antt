@@ -16,7 +16,6 @@ use Rattle.repair.specs.Repair.{each}
 use Rattle.sheet.specs.declared.Span.{Span}
 use Rattle.reading.specs.State.{State, refused, goes, withRow, withParts}
 use Rattle.reading.specs.Notices.{Token, placed, spanOfToken, after, notify}
-use Rattle.reading.specs.Bars.{anyNoted}
 use Rattle.reading.specs.Header.{byKey, keySpan, valueSpan, readReference, noticeOthers, freshParts, anyKern, readHeader}
 use Rattle.extent.proofs.StateLaws.{either, Holds, After, Passes, widen, quiet-holds, after-holds, keep-holds, notify-holds}
 use Rattle.reading.proofs.StateLaws.{fresh-noted}

@@ -2,20 +2,19 @@
 use mathlib.Core.Path.{_≡_, refl, sym, _∙_}
 use Prim.Native.Nat.{ℕ, zero, suc, _+_, _*_, _≤_}
 use native.Mathlib.Omega.{arith}
-use mathlib.Core.List.{List, [], _∷_, headD}
+use mathlib.Core.List.{List, [], _∷_}
 use mathlib.Core.Bool.{Bool, true, false, cond, _&&_}
 use lib.Dec.{eqb, leb, ltb}
 use lib.ListN.{length, take, drop}
 use Rattle.slices.specs.Ascii.{ascii}
 use Rattle.slices.specs.Compare.{beginsWith, sameBytes}
-use Rattle.slices.specs.Split.{join, split, indexOf}
-use Rattle.slices.proofs.SplitLaws.{first-piece}
-use Rattle.lines.specs.Lines.{keep, withoutCRs, kindOf}
+use Rattle.slices.specs.Split.{join, split}
+use Rattle.lines.specs.Lines.{kindOf}
 use Rattle.lines.specs.Tokens.{tokensOf, isStar, isEmpty}
 use Rattle.lines.specs.declared.Kind.the-variants.{Empty, Reference, Comment, Star, Bar, Data}
-use Rattle.repair.specs.Repair.{each, firstOf, isOrdinary, isBar, identicalBars, repairOf, repairBy, repaired}
+use Rattle.repair.specs.Repair.{each, isOrdinary, isBar, identicalBars, repairOf, repairBy, repaired}
 use Rattle.repair.specs.declared.Repair.the-variants.{Whole, Cut, Stars, Bars}
-use Rattle.repair.proofs.EachLaws.{star-first, bar-first, not-ordinary, not-bars}
+use Rattle.repair.proofs.EachLaws.{bar-first, not-ordinary, not-bars}
 
 -- the bytes of some pieces together
 unfoldable pub total : List (List ℕ) → ℕ

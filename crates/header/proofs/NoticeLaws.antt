@@ -12,7 +12,6 @@ use Rattle.slices.proofs.SplitLaws.{no-piece, all-pieces}
 use Rattle.lines.specs.Lines.{pieceEnd}
 use Rattle.lines.specs.Tokens.{tokensOf, isKern}
 use Rattle.lines.proofs.PieceLaws.{piece-at}
-use Rattle.reference.specs.declared.Reference.{Reference}
 use Rattle.sheet.specs.Record.{spanOf}
 use Rattle.reading.specs.State.{State, Result, goes}
 use Rattle.reading.specs.Notices.{Token, placed, quiet, after, notify}

@@ -8,7 +8,7 @@ use Rattle.slices.specs.Ascii.{ascii}
 use Rattle.slices.specs.Compare.{beginsWith, sameBytes}
 use Rattle.slices.specs.Split.{indexOf}
 use Rattle.interpretation.specs.declared.Interpretation.{Interpretation}
-use Rattle.interpretation.specs.declared.Interpretation.the-variants.{Nothing, Clef, Key, Meter, Symbol, Tempo, Name, ShortName, Mode, Notice}
+use Rattle.interpretation.specs.declared.Interpretation.the-variants.{Nothing, Name, ShortName, Notice}
 use Rattle.interpretation.specs.Digits.{isDigit, allDigits, decimalOn, decimal}
 use Rattle.interpretation.specs.Number.{byteNumber}
 use Rattle.interpretation.specs.Words.{placeFrom, placeOf}

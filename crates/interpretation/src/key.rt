@@ -32,8 +32,8 @@ fn fifths(bytes: usize, sharps: usize, flats: usize) -> Interpretation
 fn signature(s: &[u8]) -> Interpretation
     ensures { λ r. ⌜ r ≡ signatureOf (now (s .entry)) ⌝ }
 {
-    let sharps = slices::count(s, b'#') - 1;
-    let flats = slices::count(s, b'-') - 1;
+    let sharps = search::count(s, b'#') - 1;
+    let flats = search::count(s, b'-') - 1;
     fifths(s.len(), sharps, flats)
 }
 

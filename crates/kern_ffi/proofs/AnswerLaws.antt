@@ -1,15 +1,13 @@
 -- What the number in the reader's answer says.
 use mathlib.Core.Path.{_≡_, refl, sym, ap, subst, _∙_}
-use Prim.Native.Nat.{ℕ, _+_, _≤_, _<_, _^_}
+use Prim.Native.Nat.{ℕ, _≤_, _<_, _^_}
 use native.Mathlib.Omega.{arith}
 use mathlib.Core.Bool.{Bool, true, false, cond}
 use mathlib.Core.List.{List, [], _∷_}
 use lib.Dec.{leb}
-use lib.ListN.{length, getD, set, length-append}
+use lib.ListN.{length, getD, set}
 use borrow.Author.Tests.{leb-true}
-use Rattle.sheet.specs.Record.{Record, headBytes, recordsBytes}
-use Rattle.sheet.specs.declared.Head.{Head}
-use Rattle.sheet.proofs.HeadLaws.{head-length}
+use Rattle.sheet.specs.Record.{Record}
 use Rattle.reading.specs.Text.{Answer, refusal, accepted, readText, sheetBytes, answered, answerOf, bufferOf}
 use Rattle.account.specs.Reached.{Question-8}
 use Rattle.demand.specs.Played.{Played}

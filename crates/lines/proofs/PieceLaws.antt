@@ -5,7 +5,6 @@ use native.Mathlib.Nat.{add-zero}
 use native.Mathlib.Omega.{arith}
 use mathlib.Core.List.{List, [], _∷_}
 use lib.ListN.{length, take, drop, length-drop, drop-of-length-le}
-use lib.Seq.{take-all}
 use Rattle.slices.specs.Split.{pieces}
 use Rattle.slices.proofs.SplitLaws.{index-inside, next-piece, index-none}
 use Rattle.lines.specs.Lines.{pieceEnd}

@@ -6,7 +6,7 @@ use mathlib.Core.List.{List, [], _∷_, _++_}
 use mathlib.Core.Bool.{Bool, true, false, cond}
 use lib.Dec.{eqb}
 use lib.ListN.{length, take, getD}
-use lib.Seq.{take-suc, take-length, length-take-le}
+use lib.Seq.{take-length, length-take-le}
 use borrow.Author.Tests.{ne-eqb}
 use Rattle.lines.specs.Lines.{keep, withoutCRs}
 use Rattle.slices.proofs.PieceLaws.{last-at}

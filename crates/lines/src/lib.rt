@@ -58,9 +58,9 @@ pub fn line_end(text: &[u8], from: usize) -> usize
         return from;
     }
     if is_remark(text, from) {
-        return slices::find_from(text, b'\n', from);
+        return search::find_from(text, b'\n', from);
     }
-    from + slices::find_far(&text[from..], b'\n')
+    from + search::find_far(&text[from..], b'\n')
 }
 
 // The index of the next TAB from `from` on, or the length.
@@ -74,7 +74,7 @@ pub fn token_end(line: &[u8], from: usize) -> usize
 pub fn token_count(line: &[u8]) -> usize
     ensures { λ r. ⌜ (r ≡ length (tokensOf (now (line .entry)))) × (r ≤ length (now (line .entry)) + 1) ⌝ }
 {
-    slices::count(line, b'\t')
+    search::count(line, b'\t')
 }
 
 // What a line without trailing CRs is.

@@ -1,9 +1,9 @@
 -- Marks that say nothing, in a row: each is a signifier, and none alters a pitch.
-use mathlib.Core.Path.{_≡_, refl, sym, ap, _∙_}
+use mathlib.Core.Path.{_≡_, refl, ap, _∙_}
 use Prim.Native.Nat.{ℕ, zero, suc, _+_, _-_, _≤_, _<_}
 use native.Mathlib.Nat.{add-zero}
 use native.Mathlib.Omega.{arith}
-use mathlib.Core.List.{List, [], _∷_, _++_}
+use mathlib.Core.List.{List, _∷_, _++_}
 use mathlib.Core.Bool.{Bool, true, false}
 use lib.ListN.{length, getD, take, drop}
 use lib.Seq.{sets}
@@ -12,14 +12,13 @@ use Rattle.slices.proofs.SplitLaws.{at-index}
 use Rattle.pitch.specs.Pitch.{within, alteredBy}
 use Rattle.notation.specs.Search.{contains}
 use Rattle.items.specs.Items.{isLetter, items}
-use Rattle.items.specs.declared.Item.{Item}
 use Rattle.items.specs.declared.Item.the-variants.{Mark}
 use Rattle.items.proofs.RunLaws.{next-at}
 use Rattle.token.specs.Token.{isOdd, passes, signed, heard, signifiers}
-use Rattle.token.specs.Scan.{Odds}
+use Rattle.scan.specs.Steps.{Odds}
 use Rattle.token.specs.declared.pitches.Sound.{Sound}
 use Rattle.token.specs.declared.pitches.Sound.the-variants.{Silence, Of}
-use Rattle.token.proofs.OddLaws.{plain, is-not, next-odd}
+use Rattle.scan.proofs.OddLaws.{plain, is-not, next-odd}
 use Rattle.lists.specs.Lists.{toneBytes}
 use Rattle.lists.proofs.FillLaws.{fill-as, fill-room, fill-turn, Writing}
 use Rattle.lists.proofs.ItemLaws.{past-odd}

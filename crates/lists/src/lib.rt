@@ -18,7 +18,7 @@ fn put_articulation(out: &mut [u8], k: usize, b: u8) -> usize
     requires { ⌜ k + length (articulationsIn (b ∷ [])) ≤ length (now out) ⌝ }
     ensures { λ r. ⌜ (now (out .exit) ≡ sets (now (out .entry)) k (articulationsIn (b ∷ []))) × (r ≡ k + length (articulationsIn (b ∷ []))) ⌝ }
 {
-    let a = token::scan::articulation(b);
+    let a = scan::articulation(b);
     if a < 5 {
         out[k] = a;
         return k + 1;
@@ -43,7 +43,7 @@ pub fn fill_articulations(out: &mut [u8], token: &[u8])
 pub fn put_articulations(out: &mut [u8], token: &[u8])
     ensures { λ _. ⌜ now (out .exit) ≡ stored (now (out .entry)) (articulationBytes (now (token .entry))) ⌝ }
 {
-    let scan = token::scan::scan_token(token);
+    let scan = scan::scan_token(token);
     if out.len() < scan.articulations {
         return;
     }
@@ -75,7 +75,7 @@ pub fn fill_signifiers(out: &mut [u8], token: &[u8])
         }
         if items::is_letter(b) {
             let end = items::letter_end(token, i);
-            if token::scan::fits(sounding, b, end - i) {
+            if scan::fits(sounding, b, end - i) {
                 sounding = true;
                 i = end;
                 continue;
@@ -90,13 +90,13 @@ pub fn fill_signifiers(out: &mut [u8], token: &[u8])
             i += 1;
             continue;
         }
-        if token::scan::is_odd(b) {
-            let end = token::scan::odd_end(token, i);
+        if scan::is_odd(b) {
+            let end = scan::odd_end(token, i);
             k = put_run(out, k, &token[i..end]);
             i = end;
             continue;
         }
-        if token::scan::passes(sounding, b) {
+        if scan::passes(sounding, b) {
             i += 1;
             continue;
         }
@@ -110,7 +110,7 @@ pub fn fill_signifiers(out: &mut [u8], token: &[u8])
 pub fn put_signifiers(out: &mut [u8], token: &[u8])
     ensures { λ _. ⌜ now (out .exit) ≡ stored (now (out .entry)) (signifierBytes (now (token .entry))) ⌝ }
 {
-    let scan = token::scan::scan_token(token);
+    let scan = scan::scan_token(token);
     if out.len() < scan.signifiers {
         return;
     }
@@ -205,8 +205,8 @@ pub fn fill_pitches(out: &mut [u8], token: &[u8])
             i += 1;
             continue;
         }
-        if token::scan::is_odd(b) {
-            i = token::scan::odd_end(token, i);
+        if scan::is_odd(b) {
+            i = scan::odd_end(token, i);
             continue;
         }
         sound = sign(sound, b);
@@ -219,7 +219,7 @@ pub fn fill_pitches(out: &mut [u8], token: &[u8])
 pub fn put_pitches(out: &mut [u8], token: &[u8])
     ensures { λ _. ⌜ now (out .exit) ≡ stored (now (out .entry)) (pitchBytes (now (token .entry))) ⌝ }
 {
-    let scan = token::scan::scan_token(token);
+    let scan = scan::scan_token(token);
     if scan.rest {
         return;
     }

@@ -1,10 +1,6 @@
--- Laws of notes: beams in their cells, notices and notes of a token, and the columns of a record.
+-- Laws of a token's notices and its NOTE.
 pub mod BeamLaws
 pub mod ListLaws
 pub mod NoticeLaws
 pub mod TokenLaws
-pub mod PeerLaws
-pub mod ShapeLaws
-pub mod ColumnLaws
-pub mod DataLaws
-pub mod StretchLaws
+pub mod PlainLaws

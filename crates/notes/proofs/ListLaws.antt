@@ -14,7 +14,6 @@ use Rattle.token.specs.Outcome.{noteOf, noted, fromPeers, withoutDigits, byGive
 use Rattle.token.specs.declared.scan.Scan.{Scan}
 use Rattle.token.specs.declared.scan.Given.{Given}
 use Rattle.token.specs.declared.scan.Given.the-variants.{Nothing, Length}
-use Rattle.token.specs.declared.pitches.Tone.{Tone}
 use Rattle.token.specs.declared.outcome.Note.{Note}
 use Rattle.token.specs.declared.outcome.Outcome.{Outcome}
 use Rattle.token.specs.declared.outcome.Outcome.the-variants.{Silent, Unread, Heard}

@@ -3,7 +3,7 @@ use mathlib.Core.Path.{_≡_, refl, sym, ap, ap₂, _∙_}
 use Prim.Native.Nat.{ℕ, _+_, _≤_, _<_}
 use mathlib.Core.List.{List, [], _∷_, _++_}
 use mathlib.Core.Bool.{Bool, true, false}
-use lib.ListN.{length, getD, set}
+use lib.ListN.{length, set}
 use borrow.Author.Tests.{lt-ltb, le-ltb}
 use Rattle.lines.specs.Tokens.{isNull}
 use Rattle.duration.specs.declared.Value.{Value}
@@ -17,7 +17,7 @@ use Rattle.token.specs.declared.outcome.Outcome.{Outcome}
 use Rattle.token.specs.declared.outcome.Outcome.the-variants.{Silent, Unread, Heard}
 use Rattle.sheet.specs.Record.{Record}
 use Rattle.sheet.specs.declared.Note.{Note as NoteWritten}
-use Rattle.reading.specs.State.{Part, State, Result, goes, freshPart, partAt, withPart, withNotes}
+use Rattle.reading.specs.State.{Part, State, Result, goes, partAt, withPart, withNotes}
 use Rattle.reading.specs.Notices.{spanOfToken, quiet, notify}
 use Rattle.reading.specs.Notes as notes
 use Rattle.state.specs.declared.Tally.{Tally}
@@ -32,7 +32,7 @@ use Rattle.plain.specs.Plain.{PlainToken}
 use Rattle.plain.specs.declared.Plain.{Plain}
 use Rattle.notes.specs.declared.Spot.{Spot}
 use Rattle.notes.specs.Beam.{beamBy, soundedBy}
-use Rattle.notes.specs.Stretch.{partBefore}
+use Rattle.notes.specs.Plain.{partBefore}
 use Rattle.notes.specs.Spot.{tokenAt, tokenStep, noteAt, withNote, Same, Kept, Noticed, inferredNotice}
 use Rattle.notes.proofs.BeamLaws.{sounded-by, beam-by}
 use Rattle.notes.proofs.NoticeLaws.{same-same, noticed-none, signify-none, signify-full, noticed-goes, noticed-behind}

@@ -1,5 +1,4 @@
 -- The beam of a voice in its part's cells; a token of a kern line and what it comes to.
 pub mod Beam
 pub mod Spot
-pub mod Column
-pub mod Stretch
+pub mod Plain

@@ -6,7 +6,7 @@ use Rattle.duration.specs.Duration.{durationOf, counts, digits, numberFrom, wri
 use Rattle.pitch.specs.Pitch.{pitchOf, lowerPitch, upperPitch, lowerCase, upperCase, within}
 use Rattle.items.specs.Items.{isLetter, joins, into, runs, itemOf, itemsOf, more, first, nextItem}
 use Rattle.token.specs.Outcome.{noteOf, withoutDigits, outcomeOf}
-use Rattle.token.specs.Scan.{scanItems, dotsBy}
+use Rattle.token.specs.Scan.{scanItems}
 use Rattle.token.specs.Token.{badLength, upToBlank, firstSub, isSilent, givenIn, marks, countOf, dotsOf, restOf, anyOf, graceBy, graceFrom, articulation, articulationsIn, heard, passes, signifiers}
 use Rattle.paths.specs.Token.{pathToken}
 use Rattle.paths.specs.Row.{branchFrom, advance}
@@ -16,5 +16,5 @@ use Rattle.interpretation.specs.Interpretation.{computed}
 use Rattle.paper.specs.Table.{each, table}
 
 pub worked : T (each table)
-unfolding table sameBytes split join durationOf counts digits numberFrom written writtenAt exponentOf gcdIn pitchOf lowerPitch upperPitch lowerCase upperCase within indexOf pathToken advance branchFrom stepRow voiceRow giveVoices holds lowest withVoice contains computed isLetter joins into runs itemOf itemsOf more first nextItem noteOf withoutDigits outcomeOf scanItems dotsBy badLength upToBlank firstSub isSilent givenIn marks countOf dotsOf restOf anyOf graceBy graceFrom articulation articulationsIn heard passes signifiers
+unfolding table sameBytes split join durationOf counts digits numberFrom written writtenAt exponentOf gcdIn pitchOf lowerPitch upperPitch lowerCase upperCase within indexOf pathToken advance branchFrom stepRow voiceRow giveVoices holds lowest withVoice contains computed isLetter joins into runs itemOf itemsOf more first nextItem noteOf withoutDigits outcomeOf scanItems badLength upToBlank firstSub isSilent givenIn marks countOf dotsOf restOf anyOf graceBy graceFrom articulation articulationsIn heard passes signifiers
 worked = tt

@@ -1,23 +1,16 @@
 -- What loops follow: one over the tokens that writes the next row, and one over that row that gives its branches voices, from what is held.
 use mathlib.Core.Path.{_≡_, refl, ap, _∙_}
 use mathlib.Core.Bool.{Bool, true, false, _&&_, _||_}
-use mathlib.Core.List.{List, [], _∷_, _++_, headD}
+use mathlib.Core.List.{List, [], _∷_, _++_}
 use mathlib.Core.Option.{Option, none, some}
 use Prim.Native.Nat.{ℕ, zero, suc, _+_, _*_, _≤_, _<_}
 use native.Mathlib.Omega.{arith}
-use native.Mathlib.Numerals.{add-one}
 use lib.Dec.{eqb}
-use lib.ListN.{length, getD, drop, drop-of-length-le}
-use lib.Seq.{drop-cons, getD-drop}
 use Rattle.paths.specs.declared.PathToken.{PathToken}
 use Rattle.paths.specs.declared.PathToken.the-variants.{Split, Join, Exchange, End, Add, Other}
-use Rattle.paths.specs.Token.{isExchange}
-use Rattle.paths.specs.Row.{Spine, line, branch, outside, nextRow}
+use Rattle.paths.specs.Row.{Spine, line, branch, outside}
 use Rattle.paths.specs.Voices.{holds, lowest, withVoice, Outcome, next, voiceless, ahead, settle, giveVoices}
-use Rattle.paths.specs.Trace.{tokenAt, givesOf, gives, before, width, followsJoin}
-use Rattle.paths.specs.Text.{spineAt}
-use Rattle.paths.specs.Walk.{Mode, act, after, emit, startsExchange, walk}
-use Rattle.paths.proofs.StepLaws.{next-length}
+use Rattle.paths.specs.Trace.{tokenAt, givesOf, gives, before, followsJoin}
 
 -- ---- over the tokens
 

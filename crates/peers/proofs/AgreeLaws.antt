@@ -1,5 +1,5 @@
 -- A neighbour offers digits that another offers: it begins with them, no digit follows, and nothing is forbidden.
-use mathlib.Core.Path.{_≡_, refl, sym, ap, _∙_, subst}
+use mathlib.Core.Path.{_≡_, refl, sym, ap, _∙_}
 use Prim.Native.Nat.{ℕ, suc, _+_, _≤_, _<_}
 use native.Mathlib.Nat.{not-suc-le-zero, le-of-suc-le-suc}
 use native.Mathlib.Numerals.{add-one}
@@ -7,9 +7,9 @@ use native.Mathlib.Omega.{arith}
 use mathlib.Core.List.{List, [], _∷_}
 use mathlib.Core.Bool.{Bool, true, false, cond, _&&_, _||_, false≢true}
 use lib.Dec.{eqb}
-use lib.ListN.{length, take, drop, getD, length-take, drop-of-length-le}
+use lib.ListN.{length, drop, getD, length-take, drop-of-length-le}
 use lib.Seq.{drop-cons}
-use borrow.Author.Tests.{eq-eqb, ne-eqb, eqb-true, eqb-false}
+use borrow.Author.Tests.{eq-eqb, ne-eqb, eqb-true}
 use Rattle.slices.specs.Compare.{beginsWith, sameBytes}
 use Rattle.slices.proofs.CompareLaws.{same-is}
 use Rattle.duration.specs.Duration.{durationOf}

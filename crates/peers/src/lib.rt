@@ -31,7 +31,7 @@ fn only_signs(s: &[u8]) -> bool
 {
     let mut i = 0;
     while i < s.len() {
-        if token::scan::is_sign(s[i]) {
+        if scan::is_sign(s[i]) {
             i += 1;
         } else {
             return false;

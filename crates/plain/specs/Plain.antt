@@ -1,7 +1,7 @@
 -- Tokens of the usual shape, and what is known of one.
 use mathlib.Core.Path.{_≡_}
 use Prim.Native.Nat.{ℕ, _-_}
-use mathlib.Core.Bool.{Bool, true, false, cond}
+use mathlib.Core.Bool.{true, false, cond}
 use mathlib.Core.List.{List, [], _∷_}
 use Rattle.slices.specs.Split.{pieceAt}
 use Rattle.lines.specs.Lines.{pieceEnd}

@@ -126,7 +126,7 @@ fn is_odd(b: u8, before: usize) -> bool
     if FEW < before {
         return false;
     }
-    token::scan::is_odd(b)
+    scan::is_odd(b)
 }
 
 // The marks from an index on, behind the opening ones.
@@ -167,7 +167,7 @@ fn marks(line: &[u8], from: usize, tying: bool, slurring: bool) -> Marked
         } else if b == b')' {
             slurred = true;
             i += 1;
-        } else if token::scan::articulation(b) < 5 {
+        } else if scan::articulation(b) < 5 {
             articulations += 1;
             i += 1;
         } else if is_odd(b, i - from) {

@@ -1,24 +1,23 @@
 -- From what the two readings come to, to the answer and the buffer.
 use mathlib.Core.Path.{_≡_, refl, sym, ap, ap₂, subst, _∙_}
-use Prim.Native.Nat.{ℕ, zero, suc, _+_, _-_, _≤_, _<_, _^_}
+use Prim.Native.Nat.{ℕ, _+_, _-_, _≤_, _<_, _^_}
 use native.Mathlib.Nat.{zero-add}
 use native.Mathlib.Omega.{arith}
 use mathlib.Core.Bool.{Bool, true, false, cond}
-use mathlib.Core.List.{List, [], _∷_, _++_, append-assoc, append-nil}
-use lib.Dec.{eqb, leb}
+use mathlib.Core.List.{List, [], _++_, append-assoc, append-nil}
+use lib.Dec.{leb}
 use lib.ListN.{length, take, drop, getD, length-append, length-drop, drop-of-length-le}
-use lib.Seq.{take-at, drop-at, drop-drop, take-all, length-take-le}
+use lib.Seq.{drop-at, drop-drop, take-all, length-take-le}
 use borrow.Author.Tests.{le-leb, lt-leb, eq-eqb, ne-eqb}
 use Rattle.slices.specs.Store.{stored}
 use Rattle.utf8.specs.Utf8.{utf8Length}
 use Rattle.lines.specs.Lines.{linesOf}
 use Rattle.sheet.specs.Record.{Record, headBytes, recordsBytes}
-use Rattle.sheet.specs.declared.Head.{Head}
 use Rattle.sheet.proofs.HeadLaws.{head-length}
 use Rattle.reading.specs.State.{start}
-use Rattle.reading.specs.Text.{Answer, refusal, accepted, readLines, readText, sheetBytes, answered, laid as laidOver, answerOf, bufferOf}
+use Rattle.reading.specs.Text.{Answer, refusal, accepted, readLines, readText, sheetBytes, answerOf, bufferOf}
 use Rattle.state.specs.Lay.{laid, behind}
-use Rattle.state.proofs.LayLaws.{laid-fits, laid-empty, behind-small}
+use Rattle.state.proofs.LayLaws.{laid-fits, behind-small}
 use Rattle.account.specs.Reached.{Question-8}
 use Rattle.account.proofs.Question.{question-8}
 use Rattle.demand.specs.Played.{Played}
@@ -26,7 +25,7 @@ use Rattle.demand.proofs.PlayedLaws.{played}
 use Rattle.demand.proofs.NumberLaws.{refusal-number}
 use Rattle.extent.specs.Extent.{Extent}
 use Rattle.extent.proofs.TextLaws.{extent}
-use Rattle.reader.specs.Landing.{Finished, refused, written, finished, linesAt}
+use Rattle.reader.specs.Landing.{refused, written, finished, linesAt}
 use Rattle.reader.specs.Measured.{Measured}
 use Rattle.reader.specs.Told.{finishedBy, Tells}
 use Rattle.reader.specs.Answer.{numbersOf}

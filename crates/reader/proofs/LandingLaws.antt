@@ -1,5 +1,5 @@
 -- Reading line by line with the buffer at hand comes to what the definition of the reading says.
-use mathlib.Core.Path.{_≡_, refl, sym, ap, ap₂, _∙_}
+use mathlib.Core.Path.{_≡_, refl, ap, ap₂, _∙_}
 use Prim.Native.Nat.{ℕ, _+_}
 use mathlib.Core.Bool.{Bool, true, false, cond, _||_}
 use mathlib.Core.List.{List, [], _∷_, _++_}
@@ -9,9 +9,9 @@ use Rattle.lines.specs.Lines.{withoutCRs, kindOf}
 use Rattle.sheet.specs.Record.{Record}
 use Rattle.reading.specs.State.{State, Result, Step, refused as refused-step, goes, ends}
 use Rattle.reading.specs.Records.{readLine, isRecord}
-use Rattle.reading.specs.Text.{Answer, refusal, accepted, lastClosing, lastRecords, finish, readLines}
+use Rattle.reading.specs.Text.{Answer, refusal, accepted, finish, readLines}
 use Rattle.state.specs.Lay.{laid, behind}
-use Rattle.state.specs.View.{Landed, stopped, going, ending, landed}
+use Rattle.state.specs.View.{landed}
 use Rattle.state.proofs.LayLaws.{laid-append, behind-append}
 use Rattle.reader.specs.Landing.{Finished, refused, written, finished, finalRecords, finishAt, lineAt, linesAt}
 

@@ -1,10 +1,9 @@
 -- The loop over a text's lines: what the whole text comes to is what the lines from here on come to.
-use mathlib.Core.Path.{_≡_, refl, sym, ap, ap₂, subst, _∙_}
-use Prim.Native.Nat.{ℕ, zero, suc, _+_, _-_, _*_, _≤_, _<_, _^_}
-use native.Mathlib.Nat.{zero-add}
+use mathlib.Core.Path.{_≡_, refl, sym, ap, subst, _∙_}
+use Prim.Native.Nat.{ℕ, _+_, _-_, _*_, _≤_, _<_}
 use native.Mathlib.Omega.{arith}
-use mathlib.Core.Bool.{Bool, true, false, cond, _||_}
-use mathlib.Core.List.{List, [], _∷_, _++_}
+use mathlib.Core.Bool.{Bool, true, false, _||_}
+use mathlib.Core.List.{List}
 use lib.ListN.{length, take, drop, length-drop, length-map, length-take}
 use lib.Seq.{length-take-le}
 use Rattle.slices.specs.Split.{pieces}
@@ -15,13 +14,13 @@ use Rattle.lines.specs.declared.Kind.the-variants.{Empty, Reference, Comment, S
 use Rattle.lines.proofs.PieceLaws.{Piece, piece-at}
 use Rattle.place.specs.declared.Place.{Place}
 use Rattle.spines.specs.Cells.{rowOf, spineOf}
-use Rattle.reading.specs.State.{Part, State, Result, Step, refused as refused-step, goes, ends, start, empty}
+use Rattle.reading.specs.State.{Part, State, Result, Step, refused as refused-step, goes, ends, start}
 use Rattle.reading.specs.Records.{readLine, isRecord}
 use Rattle.state.specs.declared.Tally.{Tally}
 use Rattle.state.specs.declared.Step.{Step as StepTold}
 use Rattle.state.specs.declared.Step.the-variants.{Refused, Goes, Ends}
 use Rattle.state.specs.Parts.{rows, partsOf}
-use Rattle.state.specs.View.{stateOf, Landed, stopped, going, ending, landed, told, toldRow}
+use Rattle.state.specs.View.{stateOf, Landed, stopped, going, ending, landed, toldRow}
 use Rattle.state.specs.Ready.{Ready, Steady}
 use Rattle.state.proofs.PartLaws.{parts-length}
 use Rattle.extent.proofs.StateLaws.{Held, Holds, Passes, widen}
@@ -31,7 +30,7 @@ use Rattle.records.specs.Here.{Here}
 use Rattle.records.proofs.RecordLaws.{empty-line, comment-line}
 use Rattle.steady.proofs.LineLaws.{Firmly, start-firm, line-firm, firm-steady}
 use Rattle.reader.specs.Told.{noTally}
-use Rattle.reader.specs.Landing.{isPassed, Finished, refused, written, finishAt, lineAt, linesAt}
+use Rattle.reader.specs.Landing.{isPassed, refused, finishAt, lineAt, linesAt}
 use Rattle.lines.proofs.TrimLaws.{content-short}
 
 -- row, parts and buffer at the line that begins at `from`, behind so many lines

@@ -8,7 +8,7 @@ use Rattle.lines.specs.Lines.{withoutCRs, kindOf}
 use Rattle.lines.specs.declared.Kind.{Kind}
 use Rattle.lines.specs.declared.Kind.the-variants.{Empty, Reference, Comment, Star, Bar, Data}
 use Rattle.sheet.specs.Record.{Record}
-use Rattle.reading.specs.State.{State, Result}
+use Rattle.reading.specs.State.{State}
 use Rattle.reading.specs.Records.{readLine, isRecord}
 use Rattle.reading.specs.Text.{Answer, refusal, accepted, lastClosing, lastRecords}
 use Rattle.state.specs.Lay.{laid, behind}

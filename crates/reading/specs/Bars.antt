@@ -1,15 +1,13 @@
 -- Barlines and closings.
-use Prim.Native.Nat.{ℕ, zero, suc, _+_}
+use Prim.Native.Nat.{ℕ, _+_}
 use mathlib.Core.Bool.{Bool, true, false, cond, _||_}
 use mathlib.Core.List.{List, [], _∷_, map}
 use lib.Dec.{eqb}
-use lib.ListN.{length}
 use Rattle.notation.specs.Barline.{barlinesOf, barlineNumber}
-use Rattle.notation.specs.declared.barline.Barlines.{Barlines}
 use Rattle.paths.specs.Row.{Spine, line, branch, outside}
-use Rattle.sheet.specs.Record.{Record, BAR}
+use Rattle.sheet.specs.Record.{BAR}
 use Rattle.sheet.specs.declared.Bar.{Bar}
-use Rattle.reading.specs.State.{Part, State, Result, Step, goes, blankBar, withParts, withBars}
+use Rattle.reading.specs.State.{Part, State, Result, withParts, withBars}
 use Rattle.reading.specs.Notices.{Token, quiet}
 
 unfoldable pub anyNoted : List Part → Bool

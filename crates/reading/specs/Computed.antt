@@ -1,6 +1,5 @@
 -- The reading with every definition open: a proof that computes on a text says `unfolding computed`.
 use Prim.Native.Nat.{ℕ}
-use Prim.Native.String.{String}
 use mathlib.Core.List.{List, [], _∷_, _++_, headD}
 use Rattle.slices.specs.Compare.{beginsWith, sameBytes}
 use Rattle.slices.specs.Split.{join, split, pieces, indexOf}
@@ -20,7 +19,7 @@ use Rattle.notation.specs.Barline.{rightOf, leftOf, barlinesOf}
 use Rattle.notation.specs.Search.{contains, containsPair, trimStart}
 use Rattle.items.specs.Items.{isLetter, joins, into, runs, itemOf, itemsOf, more, first, nextItem}
 use Rattle.token.specs.Outcome.{noteOf, withoutDigits, outcomeOf}
-use Rattle.token.specs.Scan.{scanItems, dotsBy}
+use Rattle.token.specs.Scan.{scanItems}
 use Rattle.token.specs.Token.{badLength, upToBlank, firstSub, isSilent, givenIn, marks, countOf, dotsOf, restOf, anyOf, graceBy, graceFrom, articulation, articulationsIn, heard, passes, signifiers}
 use Rattle.peers.specs.Peers.{onlySigns, isBare, leading as leading-peers, forbids, offerOf, peersFrom, allOffer, uniform, kernCells}
 use Rattle.interpretation.specs.Clef.{clefs, clefOf}
@@ -52,5 +51,5 @@ shown (refusal n l f) = n ∷ l ∷ f ∷ []
 shown (accepted parts notes rs) = sheetBytes parts notes rs
 
 unfoldable pub computed : List ℕ → List ℕ
-unfolding headD beginsWith sameBytes join split pieces indexOf table begins firstOf charLength charsLength utf8Length bits codePoint keep withoutCRs kindOf isNull isKern isExclusive isStar isEmpty keyOf spanOf referenceOf white width firstCharacters characters text fromFirst before upToLast trimmed leading leadingWhite trimmedEnd trimmedAt branchFrom advance headerFrom takeRecord readTo pathToken holds lowest withVoice giveVoices voiceRow stepRow each isOrdinary isBar identicalBars repairOf repairBy questions digits numberFrom numberOf exponentOf gcdIn writtenAt written counts durationOf within lowerCase upperCase lowerPitch upperPitch pitchOf alteredBy signs twosComplement rightOf leftOf barlinesOf contains containsPair trimStart isLetter joins into runs itemOf itemsOf more first nextItem noteOf withoutDigits outcomeOf scanItems dotsBy badLength upToBlank firstSub isSilent givenIn marks countOf dotsOf restOf anyOf graceBy graceFrom articulation articulationsIn heard passes signifiers onlySigns isBare leading-peers forbids offerOf peersFrom allOffer uniform kernCells clefs clefOf isDigit allDigits decimalOn decimal meterMark isAttribute otherOf meaningOf interpretationOf occurrences endsWith withoutLast fifthsOf signatureOf keyOf-interpretation tonicMode modeOf powerBelow powerOfTwo withoutPlus meterFrom meterOf symbols symbolOf numberUpTo byteNumber rounded tempoFrom tempoOf placeFrom placeOf spanOf-sheet headBytes noteBytes pitchBytes barBytes partBytes endBytes noticeBytes extraLength pitchesBytes recordBytes recordsBytes exchangesRight exchangesLeft placed keep-reading notify notifySignifiers readReference noticeOthers freshParts anyKern readHeader readColumns readStar anyNoted closing keepLeft decidingOr deciding closeWith readBar noteRecord addNote inferredFor readToken-at readTokens readData noticeRepair readLine lastPart lastClosing lastRecords finish readLines readText sheetBytes answerOf bufferOf
+unfolding headD beginsWith sameBytes join split pieces indexOf table begins firstOf charLength charsLength utf8Length bits codePoint keep withoutCRs kindOf isNull isKern isExclusive isStar isEmpty keyOf spanOf referenceOf white width firstCharacters characters text fromFirst before upToLast trimmed leading leadingWhite trimmedEnd trimmedAt branchFrom advance headerFrom takeRecord readTo pathToken holds lowest withVoice giveVoices voiceRow stepRow each isOrdinary isBar identicalBars repairOf repairBy questions digits numberFrom numberOf exponentOf gcdIn writtenAt written counts durationOf within lowerCase upperCase lowerPitch upperPitch pitchOf alteredBy signs twosComplement rightOf leftOf barlinesOf contains containsPair trimStart isLetter joins into runs itemOf itemsOf more first nextItem noteOf withoutDigits outcomeOf scanItems badLength upToBlank firstSub isSilent givenIn marks countOf dotsOf restOf anyOf graceBy graceFrom articulation articulationsIn heard passes signifiers onlySigns isBare leading-peers forbids offerOf peersFrom allOffer uniform kernCells clefs clefOf isDigit allDigits decimalOn decimal meterMark isAttribute otherOf meaningOf interpretationOf occurrences endsWith withoutLast fifthsOf signatureOf keyOf-interpretation tonicMode modeOf powerBelow powerOfTwo withoutPlus meterFrom meterOf symbols symbolOf numberUpTo byteNumber rounded tempoFrom tempoOf placeFrom placeOf spanOf-sheet headBytes noteBytes pitchBytes barBytes partBytes endBytes noticeBytes extraLength pitchesBytes recordBytes recordsBytes exchangesRight exchangesLeft placed keep-reading notify notifySignifiers readReference noticeOthers freshParts anyKern readHeader readColumns readStar anyNoted closing keepLeft decidingOr deciding closeWith readBar noteRecord addNote inferredFor readToken-at readTokens readData noticeRepair readLine lastPart lastClosing lastRecords finish readLines readText sheetBytes answerOf bufferOf
 computed t = shown (readText t)

@@ -1,8 +1,8 @@
 -- Reference records and the header.
-use Prim.Native.Nat.{ℕ, zero, suc, _+_}
+use Prim.Native.Nat.{ℕ, suc, _+_}
 use mathlib.Core.Bool.{Bool, true, false, cond, not}
 use mathlib.Core.List.{List, [], _∷_, map}
-use lib.Dec.{ltb, leb}
+use lib.Dec.{ltb}
 use lib.ListN.{length, drop}
 use Rattle.lines.specs.Tokens.{tokensOf, isKern, isExclusive}
 use Rattle.reference.specs.Reference.{referenceOf}
@@ -13,7 +13,7 @@ use Rattle.paths.specs.Text.{headerRow}
 use Rattle.repair.specs.Repair.{each}
 use Rattle.sheet.specs.Record.{spanOf}
 use Rattle.sheet.specs.declared.Span.{Span}
-use Rattle.reading.specs.State.{Part, State, Result, Step, refused, goes, ends, empty, freshPart, withRow, withParts, withTitle, withComposer, withLyricist}
+use Rattle.reading.specs.State.{Part, State, Result, Step, refused, goes, freshPart, withRow, withParts, withTitle, withComposer, withLyricist}
 use Rattle.reading.specs.Notices.{Token, placed, spanOfToken, quiet, after, keep, notify}
 
 -- ---- "`!!!` lines": "OTL, COM, LYR set title, composer, lyricist, the last one winning; other keys give notice 1"

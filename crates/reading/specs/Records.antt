@@ -1,16 +1,15 @@
 -- One line of a text: what it begins with, its repair, and the record's kind.
-use Prim.Native.Nat.{ℕ, _+_}
+use Prim.Native.Nat.{ℕ}
 use mathlib.Core.Bool.{Bool, true, false, cond}
 use mathlib.Core.List.{List, [], _∷_}
 use lib.Dec.{eqb}
 use lib.ListN.{length}
-use Rattle.lines.specs.Lines.{withoutCRs, kindOf}
+use Rattle.lines.specs.Lines.{kindOf}
 use Rattle.lines.specs.Tokens.{tokensOf}
 use Rattle.lines.specs.declared.Kind.{Kind}
 use Rattle.lines.specs.declared.Kind.the-variants.{Empty, Reference, Comment, Star, Bar, Data}
-use Rattle.repair.specs.Repair.{repaired, repairOf, repairedOf, repairNotice}
+use Rattle.repair.specs.Repair.{repaired, repairedOf, repairNotice}
 use Rattle.repair.specs.declared.Repair.{Repair}
-use Rattle.repair.specs.declared.Repair.the-variants.{Whole, Cut, Stars, Bars}
 use Rattle.repair.specs.declared.Repaired.{Repaired}
 use Rattle.repair.specs.declared.Repaired.the-variants.{Uneven, Mixed, Even}
 use Rattle.paths.specs.Row.{Spine}

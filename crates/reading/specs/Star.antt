@@ -1,9 +1,9 @@
 -- Star records: interpretations column by column, then the next row.
-use Prim.Native.Nat.{ℕ, zero, suc, _+_, _-_}
-use mathlib.Core.Bool.{Bool, true, false, cond, not, _||_}
+use Prim.Native.Nat.{ℕ, suc, _+_, _-_}
+use mathlib.Core.Bool.{Bool, true, false, cond, _||_}
 use mathlib.Core.List.{List, [], _∷_, map}
 use lib.Dec.{eqb}
-use lib.ListN.{length, getD}
+use lib.ListN.{length}
 use Rattle.interpretation.specs.Interpretation.{interpretationOf}
 use Rattle.interpretation.specs.declared.Interpretation.{Interpretation}
 use Rattle.interpretation.specs.declared.Interpretation.the-variants.{Nothing, Clef, Key, Meter, Symbol, Tempo, Name, ShortName, Mode, Notice}
@@ -16,7 +16,7 @@ use Rattle.paths.specs.Voices.{Outcome, next, voiceless, wide, stepRow}
 use Rattle.sheet.specs.Record.{spanOf}
 use Rattle.sheet.specs.declared.Bar.{Bar}
 use Rattle.sheet.specs.declared.Span.{Span}
-use Rattle.reading.specs.State.{Part, State, Result, Step, refused, goes, ends, partAt, withPart, withRow, withTempo}
+use Rattle.reading.specs.State.{Part, State, Result, Step, refused, goes, partAt, withPart, withRow, withTempo}
 use Rattle.reading.specs.Notices.{Token, spanOfToken, quiet, after, notify}
 
 -- ---- what an interpretation sets, as `apply_interpretation` sets it

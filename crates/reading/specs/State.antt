@@ -1,8 +1,8 @@
 -- What is known between two lines of a text.
-use Prim.Native.Nat.{ℕ, _+_}
-use mathlib.Core.Bool.{Bool, true, false}
+use Prim.Native.Nat.{ℕ}
+use mathlib.Core.Bool.{Bool, false}
 use mathlib.Core.List.{List, [], _∷_}
-use lib.ListN.{length, getD, set}
+use lib.ListN.{getD, set}
 use Rattle.sheet.specs.Record.{Record}
 use Rattle.sheet.specs.declared.Bar.{Bar}
 use Rattle.sheet.specs.declared.Span.{Span}

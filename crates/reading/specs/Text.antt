@@ -1,17 +1,16 @@
 -- A whole text: its questions in their order, its lines, the end, and the sheet.
-use Prim.Native.Nat.{ℕ, zero, suc, _+_}
+use Prim.Native.Nat.{ℕ, _+_}
 use mathlib.Core.Bool.{Bool, true, false, cond, _||_}
 use mathlib.Core.List.{List, [], _∷_, _++_, reverse, map}
-use lib.Dec.{eqb, leb, ltb}
-use lib.ListN.{length, drop, getD}
+use lib.Dec.{eqb, leb}
+use lib.ListN.{length}
 use Rattle.slices.specs.Store.{stored}
 use Rattle.utf8.specs.Utf8.{utf8Length}
 use Rattle.lines.specs.Lines.{linesOf, withoutCRs, kindOf}
 use Rattle.sheet.specs.Record.{Record, PART, END, headBytes, recordsBytes}
-use Rattle.sheet.specs.declared.Bar.{Bar}
-use Rattle.reading.specs.State.{Part, State, Result, Step, refused, goes, ends, start, freshPart, partAt}
+use Rattle.reading.specs.State.{Part, State, Result, refused, goes, ends, start, freshPart}
 use Rattle.reading.specs.Bars.{anyNoted, closing}
-use Rattle.reading.specs.Notices.{quiet, after}
+use Rattle.reading.specs.Notices.{quiet}
 use Rattle.reading.specs.Records.{readLine, isRecord}
 
 -- what a text comes to: a refusal with number, line and figure, or the records of its sheet, with the numbers of parts and notes

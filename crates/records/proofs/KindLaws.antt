@@ -1,17 +1,16 @@
 -- A record by its kind: from the tokens that the code reads to those of the repaired record.
-use mathlib.Core.Path.{_≡_, refl, sym, ap, subst, _∙_}
-use Prim.Native.Nat.{ℕ, _+_, _-_, _≤_}
+use mathlib.Core.Path.{_≡_, refl, sym, ap, _∙_}
+use Prim.Native.Nat.{ℕ}
 use native.Mathlib.Omega.{arith}
-use mathlib.Core.List.{List, [], _∷_, _++_}
-use lib.ListN.{length, take, replicate}
+use mathlib.Core.List.{List}
+use lib.ListN.{length, take}
 use lib.Seq.{length-take-le}
 use Rattle.slices.specs.Ascii.{ascii}
 use Rattle.lines.specs.Lines.{kindOf}
 use Rattle.lines.specs.Tokens.{tokensOf}
 use Rattle.lines.specs.declared.Kind.{Kind}
 use Rattle.lines.specs.declared.Kind.the-variants.{Empty, Reference, Comment, Star, Bar, Data}
-use Rattle.repair.specs.Repair.{firstOf, repaired, repairedOf}
-use Rattle.repair.specs.declared.Repair.{Repair}
+use Rattle.repair.specs.Repair.{firstOf, repaired}
 use Rattle.reading.specs.State.{goes}
 use Rattle.reading.specs.Notices.{placed}
 use Rattle.reading.specs.Star.{readStar}

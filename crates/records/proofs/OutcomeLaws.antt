@@ -1,33 +1,26 @@
 -- What the pieces of a record's reading come to, one after another.
 use mathlib.Core.Path.{_≡_, refl, sym, ap, ap₂, subst, _∙_}
-use Prim.Native.Nat.{ℕ, zero, suc, _+_, _≤_, _<_}
+use Prim.Native.Nat.{ℕ, _<_}
 use native.Mathlib.Nat.{not-suc-le-zero}
 use native.Mathlib.Omega.{arith}
-use mathlib.Core.Bool.{Bool, true, false, cond}
-use mathlib.Core.List.{List, [], _∷_, _++_, map}
-use lib.Dec.{eqb}
+use mathlib.Core.List.{List, [], _∷_, map}
 use lib.ListN.{length, take, length-map}
 use borrow.Author.Tests.{ne-eqb}
-use Rattle.lines.specs.Lines.{kindOf}
 use Rattle.lines.specs.Tokens.{tokensOf}
-use Rattle.lines.specs.declared.Kind.{Kind}
-use Rattle.paths.specs.Row.{Spine}
 use Rattle.spines.specs.Cells.{rowOf, spineOf}
 use Rattle.repair.specs.Repair.{repaired, repairedOf, repairNotice}
 use Rattle.repair.specs.declared.Repair.{Repair}
-use Rattle.repair.specs.declared.Repaired.the-variants.{Uneven, Mixed, Even}
 use Rattle.sheet.specs.Record.{spanOf}
-use Rattle.reading.specs.State.{State, Result, Step, refused, goes, ends}
+use Rattle.reading.specs.State.{State, Result, Step, goes, ends}
 use Rattle.reading.specs.Notices.{placed, notify, quiet}
 use Rattle.reading.specs.Notes as notes
-use Rattle.reading.specs.Records.{noticeRepair, byKind, byRepair, onRow}
+use Rattle.reading.specs.Records.{noticeRepair, byRepair, onRow}
 use Rattle.state.specs.declared.Tally.{Tally}
 use Rattle.state.specs.declared.Step.{Step as StepTold}
 use Rattle.state.specs.declared.Step.the-variants.{Refused, Goes, Ends}
 use Rattle.state.specs.Lay.{laid, behind}
-use Rattle.state.specs.View.{stateOf, going, ending, landed, told, toldRow}
+use Rattle.state.specs.View.{stateOf, ending, landed, told, toldRow}
 use Rattle.notes.specs.Spot.{Kept}
-use Rattle.state.specs.Counts.{withActive}
 use Rattle.state.proofs.ViewLaws.{landed-behind}
 use Rattle.writing.specs.Kept.{noticeOf, keptRecords, afterKept}
 use Rattle.writing.proofs.KeptLaws.{Same, kept-same, notify-told}

@@ -1,9 +1,9 @@
 -- A record behind the header, and a line: what each branch of the code says is what the reading comes to.
 use mathlib.Core.Path.{_≡_, refl, sym, ap, ap₂, subst, _∙_}
-use Prim.Native.Nat.{ℕ, _+_, _≤_, _<_}
+use Prim.Native.Nat.{ℕ, _≤_}
 use native.Mathlib.Omega.{arith}
 use mathlib.Core.Bool.{Bool, true, false, false≢true}
-use mathlib.Core.List.{List, [], _∷_}
+use mathlib.Core.List.{List, []}
 use lib.ListN.{length, take}
 use Rattle.lines.specs.Lines.{kindOf}
 use Rattle.lines.specs.Tokens.{tokensOf}
@@ -17,20 +17,17 @@ use Rattle.repair.specs.declared.Repair.{Repair}
 use Rattle.repair.specs.declared.Repaired.{Repaired}
 use Rattle.repair.specs.declared.Repaired.the-variants.{Uneven, Mixed, Even}
 use Rattle.sheet.specs.Record.{spanOf}
-use Rattle.reading.specs.State.{State, Step, goes, ends}
+use Rattle.reading.specs.State.{State, Step, goes}
 use Rattle.reading.specs.Notices.{placed, notify}
 use Rattle.reading.specs.Header.{readReference, readHeader}
 use Rattle.reading.specs.Records.{noticeRepair, byKind, byRepair, onRow, onRecord, byLine, isRecord, readLine}
 use Rattle.state.specs.declared.Tally.{Tally}
-use Rattle.state.specs.declared.Step.{Step as StepTold}
-use Rattle.state.specs.declared.Step.the-variants.{Refused, Goes, Ends}
+use Rattle.state.specs.declared.Step.the-variants.{Goes, Ends}
 use Rattle.state.specs.Lay.{laid}
-use Rattle.state.specs.Ready.{Ready}
 use Rattle.state.specs.View.{stateOf, Landed, stopped, landed, told, toldRow}
 use Rattle.writing.specs.Kept.{noticeOf, keptRecords, afterKept}
 use Rattle.writing.proofs.KeptLaws.{Same, kept-same, notify-told}
 use Rattle.records.specs.Here.{Under, Here, Evenly}
-use Rattle.state.specs.Counts.{withActive}
 use Rattle.records.proofs.OutcomeLaws.{landed-told, none-left, some-left, ends-told, quiet-told}
 use Rattle.records.proofs.KindLaws.{row-length}
 

@@ -1,17 +1,15 @@
 -- The tokens of a repaired record, by its kind.
 use mathlib.Core.Path.{_≡_, refl, sym, ap, subst, _∙_}
-use Prim.Native.Nat.{ℕ, zero, suc, _+_, _-_, _≤_, _<_}
+use Prim.Native.Nat.{ℕ, _+_, _-_, _≤_}
 use native.Mathlib.Omega.{arith}
 use mathlib.Core.Bool.{Bool, true, false, cond, _&&_, false≢true}
-use mathlib.Core.List.{List, [], _∷_, _++_, headD, append-nil}
+use mathlib.Core.List.{List, [], _∷_, _++_, append-nil}
 use lib.Dec.{eqb, leb, ltb}
-use lib.ListN.{length, take, drop, replicate, length-take}
+use lib.ListN.{length, take, drop, replicate}
 use lib.Seq.{take-all}
-use borrow.Author.Tests.{ltb-true, eqb-true, ne-eqb}
+use borrow.Author.Tests.{eqb-true, ne-eqb}
 use Rattle.slices.specs.Ascii.{ascii}
 use Rattle.slices.specs.Compare.{beginsWith, sameBytes}
-use Rattle.slices.specs.Split.{indexOf}
-use Rattle.slices.proofs.SplitLaws.{first-piece}
 use Rattle.lines.specs.Lines.{kindOf}
 use Rattle.lines.specs.Tokens.{tokensOf, isStar, isEmpty}
 use Rattle.lines.specs.declared.Kind.{Kind}
@@ -20,7 +18,7 @@ use Rattle.repair.specs.Repair.{each, firstOf, isOrdinary, isBar, identicalBars
 use Rattle.repair.specs.declared.Repair.{Repair}
 use Rattle.repair.specs.declared.Repair.the-variants.{Whole, Cut, Stars, Bars}
 use Rattle.repair.specs.declared.Repaired.the-variants.{Even}
-use Rattle.repair.proofs.EachLaws.{star-first, bar-first, not-ordinary, not-bars}
+use Rattle.repair.proofs.EachLaws.{bar-first, not-ordinary, not-bars}
 use Rattle.repair.proofs.WidthLaws.{Applies, applies, even-width}
 
 -- ---- what a line of some kind begins with

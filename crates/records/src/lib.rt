@@ -7,7 +7,7 @@ use state::Tally;
 ghost use mathlib.Core.Path.{_≡_};
 ghost use mathlib.Core.Bool.{_||_};
 ghost use mathlib.Core.List.{List};
-ghost use Prim.Native.Nat.{ℕ, _+_, _<_, _≤_, _^_};
+ghost use Prim.Native.Nat.{ℕ, _+_, _<_, _^_};
 ghost use lib.ListN.{length, take};
 ghost use Rattle.lines.specs.Lines.{kindOf};
 ghost use Rattle.lines.specs.Tokens.{tokensOf};
@@ -104,7 +104,7 @@ fn data_of(
     ensures { λ r. ⌜ toldRow r (now (row .entry)) (now (parts .exit)) (now (out .exit)) ≡ landed (readData number (placed offset (repaired (tally .active) (tokensOf (now (line .entry))))) (stateOf (take (tally .active) (now (row .entry))) (now (parts .entry)) tally)) (now (out .entry)) (tally .at) ⌝ }
 {
     let active = tally.active;
-    notes::read_data(line, &row[..active], parts, tally, number, offset, out)
+    data::read_data(line, &row[..active], parts, tally, number, offset, out)
 }
 
 // A record behind the header that passed questions 6 and 7.

@@ -1,13 +1,13 @@
 -- The end of a text: an ASCII byte behind it is a character of its own.
-use mathlib.Core.Path.{_≡_, refl, sym, ap, _∙_, subst}
+use mathlib.Core.Path.{_≡_, refl, sym, ap, _∙_}
 use mathlib.Core.Bool.{Bool, true, false, cond, _&&_}
 use mathlib.Core.List.{List, [], _∷_, _++_}
-use Prim.Native.Nat.{ℕ, suc, _+_, _-_, _≤_, _<_}
+use Prim.Native.Nat.{ℕ, _+_, _-_, _≤_, _<_}
 use native.Mathlib.Nat.{not-suc-le-zero}
 use native.Mathlib.Omega.{arith}
 use lib.Dec.{T, leb, eqb, leb→le}
 use lib.ListN.{length, take, drop, getD, length-append}
-use lib.Seq.{take-suc, take-length, take-append-le, drop-append-le, length-take-le}
+use lib.Seq.{take-length, take-append-le, drop-append-le, length-take-le}
 use borrow.Author.Tests.{lt-leb}
 use Rattle.slices.specs.Finite.{both-left, both-right}
 use Rattle.utf8.specs.Utf8.{Range, table, begins, firstOf, charLength, codePoint}

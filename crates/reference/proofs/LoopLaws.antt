@@ -8,7 +8,7 @@ use native.Mathlib.Omega.{arith}
 use lib.Dec.{eqb, eqb·suc-zero}
 use lib.ListN.{length, take, drop, getD, length-drop}
 use borrow.Author.Tests.{ne-eqb}
-use lib.Seq.{drop-cons, drop-drop, take-all}
+use lib.Seq.{drop-cons, drop-drop}
 use Rattle.utf8.specs.Utf8.{charLength, codePoint}
 use Rattle.utf8.proofs.LengthLaws.{char-plain}
 use Rattle.utf8.proofs.PointLaws.{point-1}

@@ -11,7 +11,6 @@ use borrow.Author.Tests.{eq-eqb, ne-eqb, eqb-true}
 use Rattle.slices.specs.Split.{join, split, pieces, indexOf}
 use Rattle.slices.specs.Compare.{beginsWith}
 use Rattle.slices.proofs.SplitLaws.{all-pieces, no-piece, first-piece}
-use Rattle.slices.specs.Ascii.{ascii}
 use Rattle.lines.specs.Lines.{pieceEnd}
 use Rattle.lines.specs.Tokens.{tokensOf, isStar}
 use Rattle.lines.proofs.PieceLaws.{Piece}

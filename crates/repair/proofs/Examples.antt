@@ -6,7 +6,6 @@ use Prim.Native.String.{String}
 use Rattle.slices.specs.Ascii.{ascii}
 use Rattle.slices.specs.Split.{join, split}
 use Rattle.slices.specs.Compare.{beginsWith, sameBytes}
-use Rattle.slices.specs.Ascii.{ascii as word}
 use Rattle.lines.specs.Tokens.{tokensOf, isStar, isEmpty}
 use Rattle.paths.specs.Token.{pathToken}
 use Rattle.repair.specs.Repair.{each, isOrdinary, isBar, identicalBars, repairOf, repairBy, questions, repairedOf, repaired}

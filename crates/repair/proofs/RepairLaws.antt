@@ -10,7 +10,6 @@ use lib.Seq.{length-take-le, take-all}
 use borrow.Author.Tests.{lt-ltb, le-ltb, le-leb, lt-leb, eq-eqb, ne-eqb, eqb-true}
 use Rattle.slices.specs.Ascii.{ascii}
 use Rattle.slices.specs.Compare.{beginsWith, sameBytes}
-use Rattle.slices.specs.Ascii.{ascii as word}
 use Rattle.lines.specs.Tokens.{isStar, isEmpty}
 use Rattle.paths.specs.Token.{pathToken}
 use Rattle.repair.specs.Repair.{each, firstOf, isOther, isOrdinary, isBar, identicalBars, repairOf, repairBy, questions, repairedOf}

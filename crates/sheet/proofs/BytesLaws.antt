@@ -4,7 +4,13 @@ use Prim.Native.Nat.{ℕ, _+_, _*_, _/_, _%_, _<_}
 use native.Mathlib.Nat.{div-div-eq-div-mul, div-add-mod', mod-eq-of-lt}
 use native.Mathlib.Omega.{arith}
 use mathlib.Core.List.{List, [], _∷_, _++_}
+use mir.Syntax.{w8}
+use mir.Val.{Fits}
 use Rattle.sheet.specs.Fits.{u16, u32, All}
+
+-- the lowest byte of a number
+pub byte : (n : ℕ) → Fits w8 (n % 256)
+byte n = record { fits = omega arith }
 
 pub back2 : {n : ℕ} → u16 n → n % 256 + 256 * (n / 256 % 256) ≡ n
 back2 {n} h = omega arith

@@ -2,11 +2,10 @@
 use mathlib.Core.Path.{_≡_, refl}
 use mathlib.Core.List.{List, _++_}
 use Prim.Native.Nat.{ℕ}
-use native.Mathlib.Omega.{arith}
 use lib.ListN.{length}
 use Rattle.sheet.specs.Record.{headBytes}
 use Rattle.sheet.specs.Player.{headOf}
-use Rattle.sheet.specs.Fits.{u8, All, HeadFits}
+use Rattle.sheet.specs.Fits.{HeadFits}
 use Rattle.sheet.specs.declared.Head.{Head}
 use Rattle.sheet.proofs.BytesLaws.{back2, back4}
 

@@ -29,7 +29,7 @@ use Rattle.state.specs.View.{stateOf, landed, told}
 use Rattle.state.proofs.PartLaws.{part-at}
 use Rattle.writing.specs.Kept.{noticeOf, keptRecords, afterKept}
 use Rattle.writing.proofs.KeptLaws.{notify-told, kept-same}
-use Rattle.stars.specs.Change.{changed}
+use Rattle.tandem.specs.Change.{changed}
 use borrow.Author.Tests.{eq-eqb, ne-eqb}
 use Rattle.stars.specs.Columns.{tokenOf, withFirst, tempoed, noticed, Held, Comes, Fit}
 

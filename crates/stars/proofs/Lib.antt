@@ -1,5 +1,4 @@
 -- Laws of star records.
-pub mod CellLaws
 pub mod ApplyLaws
 pub mod PairLaws
 pub mod LoopLaws

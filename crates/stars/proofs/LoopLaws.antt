@@ -9,7 +9,6 @@ use mathlib.Core.List.{List, [], _∷_, _++_, map}
 use lib.ListN.{length, take, drop, getD, replicate, length-drop, drop-of-length-le}
 use lib.Seq.{drop-drop, getD-drop, length-take-le}
 use Rattle.slices.specs.Ascii.{ascii}
-use Rattle.slices.specs.Compare.{sameBytes}
 use Rattle.slices.specs.Split.{pieces}
 use Rattle.slices.proofs.SplitLaws.{all-pieces, no-piece}
 use Rattle.lines.specs.Tokens.{tokensOf}

@@ -1,6 +1,4 @@
 // Star records: what interpretations set, column by column, and the next row.
-pub mod cells;
-
 use interpretation::Interpretation;
 use paths::PathToken;
 use state::Step;
@@ -128,7 +126,7 @@ fn apply(
     let noted = is_noted(parts, p);
     let what = interpretation::interpret(token, noted);
     let len = token.len() as u32;
-    cells::change_part(parts, p, what, offset, len);
+    tandem::change_part(parts, p, what, offset, len);
     let t = first_tempo(tally, what);
     give_notice(out, t, what, number, column, offset, len)
 }

@@ -1,16 +1,15 @@
 -- Records that are laid in a buffer one after another; what is laid where all fits.
 use mathlib.Core.Path.{_≡_, refl, sym, ap, ap₂, _∙_}
-use Prim.Native.Nat.{ℕ, zero, suc, _+_, _-_, _≤_, _<_, _%_, _^_, min}
+use Prim.Native.Nat.{ℕ, _+_, _-_, _≤_, _<_, _^_, min}
 use mathlib.Core.Bool.{Bool, true, false, cond}
 use lib.Dec.{leb}
-use native.Mathlib.Nat.{mod-eq-of-lt, add-zero, not-suc-le-zero}
+use native.Mathlib.Nat.{mod-eq-of-lt, add-zero}
 use native.Mathlib.Omega.{arith}
 use mathlib.Core.List.{List, [], _∷_, _++_, append-assoc, append-nil}
 use lib.ListN.{length, take, drop, length-append, length-drop, drop-of-length-le, take-append-drop}
-use lib.Seq.{take-all, take-at, drop-at, drop-drop, take-add, length-take-le}
-use borrow.Author.Tests.{le-leb, lt-leb, leb-true, leb-false}
+use lib.Seq.{take-all, take-at, drop-at, drop-drop, length-take-le}
+use borrow.Author.Tests.{le-leb, leb-true, leb-false}
 use Rattle.slices.specs.Store.{stored}
-use Rattle.slices.proofs.StoreLaws.{stored-not}
 use Rattle.sheet.specs.Record.{Record, recordBytes, recordsBytes}
 use Rattle.state.specs.Lay.{past, storedAt, laid, behind}
 
@@ -73,14 +72,6 @@ unfolding laid
 laid-length [] out at = refl
 laid-length (r ∷ rs) out at =
     laid-length rs (storedAt out at (recordBytes r)) (past at (length (recordBytes r))) ∙ storedAt-length out at (recordBytes r)
-
--- an empty buffer stays empty
-no-bytes : (l : List ℕ) → length l ≡ 0 → l ≡ []
-no-bytes [] e = refl
-no-bytes (x ∷ l) e = absurd (not-suc-le-zero {n = 0} (omega arith))
-
-pub laid-empty : (rs : List Record) (at : ℕ) → laid [] at rs ≡ []
-laid-empty rs at = no-bytes (laid [] at rs) (laid-length rs [] at)
 
 -- a place past the end of the buffer is as good as the end
 pub storedAt-clip : (out : List ℕ) (at : ℕ) (bytes : List ℕ) → storedAt out (min at (length out)) bytes ≡ storedAt out at bytes

@@ -1,12 +1,11 @@
 -- Parts read from their cells, and a part whose cells were lent.
-use mathlib.Core.Path.{_≡_, refl, sym, ap, ap₂, _∙_}
-use Prim.Native.Nat.{ℕ, zero, suc, _+_, _-_, _*_, _≤_, _<_, pred}
-use native.Mathlib.Nat.{not-suc-le-zero, le-of-suc-le-suc, suc-inj}
+use mathlib.Core.Path.{_≡_, refl, sym, ap, _∙_}
+use Prim.Native.Nat.{ℕ, zero, suc, _*_, _≤_, _<_}
+use native.Mathlib.Nat.{not-suc-le-zero, le-of-suc-le-suc}
 use native.Mathlib.Omega.{arith}
-use mathlib.Core.List.{List, [], _∷_, _++_, map}
-use lib.ListN.{length, take, drop, set, getD, length-drop, length-map}
-use lib.Seq.{length-take-le}
-use Rattle.reading.specs.State.{Part, freshPart}
+use mathlib.Core.List.{List, [], _∷_, map}
+use lib.ListN.{length, take, drop, set, getD, length-map}
+use Rattle.reading.specs.State.{Part}
 use Rattle.state.specs.Parts.{rows, partOf, partsOf}
 use Rattle.state.proofs.RowLaws.{put, rows-put, rows-at, rows-length}
 

@@ -1,9 +1,9 @@
 -- A row of cells that is lent and comes back is one row set.
 use mathlib.Core.Path.{_≡_, refl, sym, ap, ap₂, _∙_}
-use Prim.Native.Nat.{ℕ, zero, suc, _+_, _-_, _*_, _≤_, _<_}
+use Prim.Native.Nat.{ℕ, zero, suc, _+_, _*_, _≤_, _<_}
 use native.Mathlib.Nat.{suc-mul, zero-mul, not-suc-le-zero, le-of-suc-le-suc}
 use native.Mathlib.Omega.{arith}
-use mathlib.Core.List.{List, [], _∷_, _++_, append-assoc}
+use mathlib.Core.List.{List, _∷_, _++_, append-assoc}
 use lib.ListN.{length, take, drop, set, getD, length-drop}
 use lib.Seq.{take-at, drop-at, take-add, drop-drop, length-take-le}
 use Rattle.state.specs.Parts.{rows}

@@ -1,12 +1,11 @@
 -- Outcomes one after another.
-use mathlib.Core.Path.{_≡_, refl, sym, ap, ap₂, _∙_}
+use mathlib.Core.Path.{_≡_, refl, ap₂}
 use Prim.Native.Nat.{ℕ}
-use mathlib.Core.List.{List, [], _∷_, _++_}
-use Rattle.sheet.specs.Record.{Record}
+use mathlib.Core.List.{List}
 use Rattle.reading.specs.State.{State, Result, Step, refused, goes, ends}
 use Rattle.reading.specs.Notes as notes
 use Rattle.state.specs.Lay.{laid, behind}
-use Rattle.state.specs.View.{Landed, stopped, going, ending, landed}
+use Rattle.state.specs.View.{going, ending, landed}
 use Rattle.state.proofs.LayLaws.{laid-append, behind-append}
 
 -- a result before a step: the step's records are laid behind the result's

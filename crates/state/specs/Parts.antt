@@ -1,5 +1,5 @@
 -- The parts' cells: 35 for each part.
-use Prim.Native.Nat.{ℕ, zero, suc, _+_, _%_}
+use Prim.Native.Nat.{ℕ, zero, suc, _%_}
 use mathlib.Core.Bool.{Bool}
 use mathlib.Core.List.{List, [], _∷_, map}
 use lib.Dec.{eqb}

@@ -3,7 +3,7 @@ use Prim.Native.Nat.{ℕ}
 use mathlib.Core.List.{List}
 use lib.ListN.{take}
 use Rattle.spines.specs.Cells.{rowOf}
-use Rattle.reading.specs.State.{State, Result, Step, refused, goes, ends}
+use Rattle.reading.specs.State.{State, Step, refused, goes, ends}
 use Rattle.state.specs.declared.Tally.{Tally}
 use Rattle.state.specs.declared.Step.{Step as StepTold}
 use Rattle.state.specs.declared.Step.the-variants.{Refused, Goes, Ends}

@@ -1,7 +1,6 @@
 // What is known between two lines of a text: flat cells for the row and the parts, and the counts beside them.
 use sheet::Span;
 ghost use mathlib.Core.Path.{_≡_};
-ghost use Prim.Native.Nat.{_+_, _%_, _^_};
 ghost use Rattle.state.specs.Lay.{past};
 ghost use Rattle.state.specs.Counts.{withActive};
 

@@ -1,6 +1,6 @@
 -- Line after line: the row is short, its parts are among the state's, and the counts are small.
 use mathlib.Core.Path.{_≡_, refl, sym, subst}
-use Prim.Native.Nat.{ℕ, _+_, _*_}
+use Prim.Native.Nat.{ℕ}
 use native.Mathlib.Omega.{arith}
 use mathlib.Core.Bool.{Bool, true, false, cond, not}
 use mathlib.Core.List.{List, [], _∷_, map}
@@ -19,7 +19,7 @@ use Rattle.paths.specs.Row.{Spine}
 use Rattle.paths.specs.Text.{headerRow}
 use Rattle.paths.specs.Token.{pathToken}
 use Rattle.paths.specs.Voices.{Outcome, next, voiceless, wide, stepRow}
-use Rattle.sheet.specs.Record.{spanOf, recordsBytes}
+use Rattle.sheet.specs.Record.{spanOf}
 use Rattle.reading.specs.State.{State, Result, Step, refused, goes, ends, start, withRow, withParts}
 use Rattle.reading.specs.Notices.{Token, placed, quiet, notify}
 use Rattle.reading.specs.Header.{noticeOthers, freshParts, anyKern, readHeader}
@@ -27,8 +27,7 @@ use Rattle.reading.specs.Star.{readColumns, toRow, readStar}
 use Rattle.reading.specs.Notes.{behind}
 use Rattle.reading.specs.Records.{noticeRepair, byKind, byRepair, onRow, onRecord, byLine, readLine}
 use Rattle.state.specs.Ready.{Steady}
-use Rattle.extent.proofs.StateLaws.{either, Holds, Passes}
-use Rattle.extent.proofs.RecordLaws.{line-holds}
+use Rattle.extent.proofs.StateLaws.{either, Holds}
 use Rattle.steady.proofs.RowLaws.{Firm, OutcomeFirm, inside-within, header-in, step-firm}
 use Rattle.steady.proofs.KeepLaws.{Is, IsStep, notify-is, reference-is, others-are, columns-are, bar-is, data-is}
 use Rattle.paths.proofs.TextLaws.{header-length}

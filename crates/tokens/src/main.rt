@@ -6,7 +6,6 @@ use notation::beam::Beam;
 use token::outcome::Note;
 use token::outcome::Outcome;
 ghost use Prim.Native.Nat.{_≤_};
-ghost use lib.ListN.{length};
 
 fn print(bytes: &[u8]) {
     io::write_all(1, bytes);
@@ -112,10 +111,10 @@ fn inferred_for(line: &[u8], token: &[u8]) -> Value {
 fn answer(line: &[u8]) {
     let at = last_token(line);
     let token = slices::piece(line, at, line.len());
-    let scan = token::scan::scan_token(token);
+    let scan = scan::scan_token(token);
     let inferred = inferred_for(line, token);
     let signifiers = scan.signifiers;
-    match token::outcome::kern_token(scan, inferred) {
+    match scan::outcome::kern_token(scan, inferred) {
         Outcome::Silent => {}
         Outcome::Unread(number) => {
             if number != 16 {

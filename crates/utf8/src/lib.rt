@@ -1,6 +1,6 @@
 // UTF-8 by RFC 3629: the length of the well-formed part of a text, and the character at its front.
 ghost use mathlib.Core.Path.{_≡_};
-ghost use mathlib.Core.Bool.{true, cond};
+ghost use mathlib.Core.Bool.{cond};
 ghost use mathlib.Core.List.{_∷_};
 ghost use Prim.Native.Nat.{ℕ, _+_, _-_, _*_, _%_, _≤_, _<_};
 ghost use lib.ListN.{length, drop, getD};

@@ -4,13 +4,13 @@ use Prim.Native.Nat.{ℕ, min, _+_, _≤_, _<_}
 use native.Mathlib.Omega.{arith}
 use native.Mathlib.Numerals.{add-one}
 use mathlib.Core.List.{List, _++_}
-use lib.ListN.{length, getD, take, drop, set, length-set, length-map}
+use lib.ListN.{length, getD, take, drop, set, length-set}
 use lib.Seq.{take-suc, take-suc-set, take-all, take-at, length-take-le}
 use borrow.Author.Tests.{le-leb, lt-leb}
 use Rattle.paths.specs.declared.PathToken.{PathToken}
 use Rattle.paths.specs.Row.{Spine, nextRow}
 use Rattle.paths.specs.Voices.{Outcome, next, voiceless, wide, voiceRow, narrow, stepRow}
-use Rattle.spines.specs.Cells.{spineOf, rowOf}
+use Rattle.spines.specs.Cells.{rowOf}
 use Rattle.voices.specs.Outcome.{givenOf}
 use Rattle.voices.specs.declared.Given.{Given}
 use Rattle.voices.specs.declared.Given.the-variants.{All, Without}

@@ -8,12 +8,12 @@ use Rattle.sheet.specs.Record.{Record, NOTICE}
 use Rattle.sheet.specs.declared.Notice.{Notice}
 use Rattle.sheet.specs.declared.Span.{Span}
 use Rattle.reading.specs.State.{State, goes, withNotices}
-use Rattle.reading.specs.Notices.{quiet, keep, notify, notifySignifiers}
+use Rattle.reading.specs.Notices.{quiet, keep, notify}
 use Rattle.state.specs.declared.Tally.{Tally}
 use Rattle.state.specs.declared.Step.the-variants.{Goes}
 use Rattle.state.specs.Lay.{laid, behind}
 use Rattle.state.specs.View.{stateOf, going, landed, told}
-use Rattle.writing.specs.Kept.{noticeOf, signifiersNotice, counted, keptRecords, afterKept}
+use Rattle.writing.specs.Kept.{noticeOf, counted, keptRecords, afterKept}
 
 -- the counts that a notice leaves as they are
 pub record Same (a b : Tally) : Type 0 where

@@ -20,7 +20,7 @@ use Rattle.reading.specs.Notes.{pitchOfTone}
 use Rattle.pitch.specs.Pitch.{twosComplement}
 use Rattle.sheet.specs.declared.Note.{Note}
 use Rattle.sheet.specs.declared.Notice.{Notice}
-use Rattle.sheet.specs.Record.{Record, NOTICE, NOTE, noticeBytes, noteBytes, pitchBytes, pitchesBytes, recordBytes}
+use Rattle.sheet.specs.Record.{Record, NOTICE, noticeBytes, noteBytes, pitchBytes, pitchesBytes, recordBytes}
 use Rattle.sheet.proofs.NoteLaws.{note-length, NOTE-length}
 use Rattle.state.specs.Lay.{past, storedAt, laid, behind}
 use Rattle.state.proofs.LayLaws.{laid-one, behind-one, stored-back}

@@ -1,5 +1,5 @@
 -- `kern_duration`: the number and the length decide.
-use mathlib.Core.Path.{_≡_, refl, sym, _∙_}
+use mathlib.Core.Path.{refl, sym, _∙_}
 use Rattle.duration.proofs.Durations.{too-long, no-digits, parsed}
 use borrow.Author.Needs.{needs}
 use Rattle.duration.proofs.kern_duration.Statement.{statement}

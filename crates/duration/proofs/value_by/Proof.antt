@@ -1,5 +1,5 @@
 -- `value_by`: each way out has its tests on the length and the number.
-use mathlib.Core.Path.{_≡_, sym, ap, _∙_}
+use mathlib.Core.Path.{sym, _∙_}
 use native.Mathlib.Omega.{arith}
 use Rattle.duration.proofs.Durations.{too-long, is-breve, is-longa, is-zero, too-high, is-written, told}
 use borrow.Author.Needs.{needs}

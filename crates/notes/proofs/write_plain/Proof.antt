@@ -1,13 +1,13 @@
 -- The beam, the NOTE and its place.
-use mathlib.Core.Path.{sym, ap, ap₂, _∙_}
-use mathlib.Core.List.{List, [], _∷_}
+use mathlib.Core.Path.{ap, _∙_}
+use mathlib.Core.List.{[], _∷_}
 use native.Mathlib.Omega.{arith}
 use Rattle.sheet.specs.declared.Note.{Note as NoteWritten}
 use Rattle.extent.proofs.TokenLaws.{gives}
 use Rattle.state.specs.Lay.{laid, behind}
 use Rattle.writing.specs.Kept.{noteRecord}
 use Rattle.notes.specs.Spot.{noteAt}
-use Rattle.notes.proofs.ShapeLaws.{plain-lists, plain-alone}
+use Rattle.notes.proofs.PlainLaws.{plain-lists, plain-alone}
 use borrow.Author.Needs.{needs}
 use Rattle.notes.proofs.write_plain.Statement.{statement}
 use Rattle.notes.proofs.write_plain.Tie as tie

@@ -5,7 +5,7 @@ use Rattle.records.proofs.data_of.Statement.{statement}
 use Rattle.records.proofs.data_of.Tie as tie
 use Rattle.records.proofs.data_of.Reads as reads
 use Rattle.records.proofs.data_of.Lts as lts
-use Rattle.notes.proofs.read_data.Reads as read-data-reads
+use Rattle.data.proofs.read_data.Reads as read-data-reads
 
 -- src/lib.rt:113:28
 slice-aggregate-read-data : tie.Need-slice-aggregate-read-data

@@ -1,5 +1,5 @@
 -- `spines::lookup` meets its contract: a walk of its MIR, by hand. The place of the element is computed, the slice is looked into, the element is taken out of the row, read, and put back.
-use mathlib.Core.Path.{_≡_, refl, sym}
+use mathlib.Core.Path.{refl, sym}
 use Prim.Native.Nat.{ℕ, _<_, _^_, _*_}
 use native.Mathlib.Omega.{arith}
 use mathlib.Core.Bool.{false}

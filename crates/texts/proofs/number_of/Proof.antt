@@ -1,5 +1,5 @@
 use borrow.Author.Needs.{needs}
-use Prim.Native.Nat.{_+_, _-_, _≤_}
+use Prim.Native.Nat.{_-_, _≤_}
 use lib.ListN.{length}
 use Rattle.texts.proofs.number_of.Statement.{statement}
 use Rattle.texts.proofs.number_of.Tie as tie

@@ -1,9 +1,7 @@
 -- No pitch has no bytes; the one that there is has three.
-use mathlib.Core.Path.{sym, ap, _∙_}
+use mathlib.Core.Path.{ap, _∙_}
 use native.Mathlib.Omega.{arith}
 use borrow.Author.Needs.{needs}
-use mathlib.Core.List.{List}
-use Prim.Native.Nat.{ℕ}
 use Rattle.slices.specs.Store.{stored}
 use Rattle.slices.proofs.StoreLaws.{stored-tail}
 use Rattle.token.specs.Outcome.{notePitches}

@@ -8,7 +8,7 @@ use Rattle.slices.proofs.StoreLaws.{stored-not, stored-tail}
 use Rattle.items.specs.Items.{items}
 use Rattle.token.specs.Token.{signifiersOf}
 use Rattle.sheet.proofs.NoticeLaws.{notice-length, NOTICE-length}
-use Rattle.sheet.specs.Record.{NOTICE, noticeBytes, recordBytes}
+use Rattle.sheet.specs.Record.{noticeBytes, recordBytes}
 use Rattle.state.proofs.LayLaws.{stored-length}
 use Rattle.writing.proofs.WriteLaws.{stored-more}
 use Rattle.writing.proofs.put_signified.Statement.{statement}

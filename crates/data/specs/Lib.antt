@@ -1,0 +1,3 @@
+-- The columns of a data record, one by one and in stretches.
+pub mod Column
+pub mod Stretch

@@ -1,0 +1,2 @@
+-- How a token is scanned.
+pub mod Steps

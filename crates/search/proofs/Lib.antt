@@ -1,0 +1,2 @@
+-- Laws of the searches by blocks.
+pub mod BlockLaws

@@ -1,0 +1,2 @@
+-- Laws of the cells that an interpretation sets.
+pub mod CellLaws

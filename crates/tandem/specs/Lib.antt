@@ -1,0 +1,2 @@
+-- What a tandem interpretation sets, as the code takes it apart.
+pub mod Change
