@@ -1,5 +1,5 @@
 -- "Notes of one record never share part and voice": for every text.
-use Prim.Native.Nat.{ℕ, zero, suc, _+_, _<_, _≤_}
+use Prim.Native.Nat.{ℕ, suc, _+_, _<_, _≤_}
 use native.Mathlib.Omega.{arith}
 use mathlib.Core.Bool.{Bool, true, false, cond}
 use mathlib.Core.List.{List, [], _∷_, _++_}
@@ -243,26 +243,6 @@ records-distinct (x ∷ rs) (l, i, u) =
 pub never-share : (text : List ℕ) → Distinct (account text)
 unfolding account takenOf pathsOf recordsOf
 never-share text = records-distinct (recordsFrom 0 (linesOf text)) (rising 0 0 (linesOf text) (omega arith))
-
--- the same by positions, whatever stands past the end
-share-swap : (a b : Item) → Share a b → Share b a
-share-swap a b s = (sym (s .0), sym (s .1), sym (s .2))
-
-none-at : (a d : Item) (is : List Item) (j : ℕ) → SharesNone a is → j < length is → Share a (getD is j d) → ⊥
-none-at a d [] j n l s = omega arith
-none-at a d (i ∷ is) zero (f, n) l s = f s
-none-at a d (i ∷ is) (suc j) (f, n) l s = none-at a d is j n (omega arith) s
-
-distinct-at : (d : Item) (is : List Item) (i j : ℕ) → Distinct is → i ≢ j → i < length is → j < length is → Share (getD is i d) (getD is j d) → ⊥
-distinct-at d [] i j ds n l m s = omega arith
-distinct-at d (a ∷ is) zero zero ds n l m s = n refl
-distinct-at d (a ∷ is) zero (suc j) (f, ds) n l m s = none-at a d is j f (omega arith) s
-distinct-at d (a ∷ is) (suc i) zero (f, ds) n l m s = none-at a d is i f (omega arith) (share-swap (getD is i d) a s)
-distinct-at d (a ∷ is) (suc i) (suc j) (f, ds) n l m s = distinct-at d is i j ds (λ e. n (omega arith)) (omega arith) (omega arith) s
-
-pub never-share-at : (text : List ℕ) (d : Item) (i j : ℕ) → i ≢ j → i < length (account text) → j < length (account text)
-    → Share (getD (account text) i d) (getD (account text) j d) → ⊥
-never-share-at text d i j n l m = distinct-at d (account text) i j (never-share text) n l m
 
 -- ---- the NOTEs of an accepted text
 

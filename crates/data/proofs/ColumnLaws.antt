@@ -1,18 +1,16 @@
 -- One column: what its cell says, and what its token comes to.
 use mathlib.Core.Path.{_≡_, refl, sym, ap, _∙_}
-use Prim.Native.Nat.{ℕ, zero, suc, _+_, _-_, _/_, _%_, _^_, _≤_, _<_}
-use native.Mathlib.Nat.{not-suc-le-zero, le-of-suc-le-suc}
+use Prim.Native.Nat.{ℕ, _+_, _-_, _/_, _%_, _^_, _≤_, _<_}
 use native.Mathlib.Omega.{arith}
-use mathlib.Core.List.{List, [], _∷_, map}
+use mathlib.Core.List.{List, map}
 use mathlib.Core.Bool.{Bool, true}
 use lib.ListN.{length, take, drop, getD, length-take}
 use Rattle.lines.specs.Tokens.{tokensOf, isNull}
 use Rattle.duration.specs.Duration.{durationOf}
 use Rattle.duration.specs.declared.Value.{Value}
 use Rattle.paths.specs.Row.{Spine, line, branch, outside}
-use Rattle.paths.specs.Text.{spineAt}
 use Rattle.spines.specs.Cells.{spineOf, rowOf}
-use Rattle.spines.proofs.CellLaws.{cell-outside, cell-line, cell-branch}
+use Rattle.spines.proofs.CellLaws.{cell-at, cell-outside, cell-line, cell-branch}
 use Rattle.reading.specs.State.{State, Step, goes}
 use Rattle.reading.specs.Notices.{Token, quiet}
 use Rattle.reading.specs.Bars.{isKernSpine}
@@ -25,12 +23,6 @@ use Rattle.data.specs.declared.Column.{Column}
 use Rattle.notes.specs.Spot.{spotAt, tokenStep, Sited}
 use Rattle.data.specs.Column.{tokenIn, columnStep}
 use Rattle.notes.proofs.TokenLaws.{quiet-step}
-
-cell-at : (s : List ℕ) (i : ℕ) → i < length s → spineAt (rowOf s) i ≡ spineOf (getD s i 0)
-unfolding rowOf
-cell-at [] i h = absurd (not-suc-le-zero h)
-cell-at (c ∷ s) zero h = refl
-cell-at (c ∷ s) (suc i) h = cell-at s i (le-of-suc-le-suc h)
 
 -- a null token, in whatever spine
 spine-null : (s : Spine) (all : List (List ℕ)) (kern : List Bool) (k i : ℕ) (t : Token) (st : State) → isNull (t .bytes) ≡ true

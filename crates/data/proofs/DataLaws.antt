@@ -96,7 +96,7 @@ rest-more line row k offset from i e st h p =
     (sym (add-one i)) next
 
 -- ---- the loop
--- what the whole comes to is what is left comes to
+-- what the whole comes to is what the rest comes to
 pub record Reading (whole : Landed) (line row parts₀ out₀ : List ℕ) (t₀ : Tally) (k offset : ℕ) (parts out : List ℕ) (t : Tally) (from i : ℕ) : Type 0 where
   pub high : i ≤ length row
   pub long : length parts ≡ length parts₀

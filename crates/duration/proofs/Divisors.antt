@@ -2,10 +2,10 @@
 use mathlib.Core.Path.{_≡_, refl}
 use mathlib.Core.Bool.{Bool, true, false, cond}
 use Prim.Native.Nat.{ℕ, zero, suc, _%_, _≤_, _<_, _∣_}
-use native.Mathlib.Nat.{mod-lt, le-refl, dvd-refl, dvd-zero, dvd-mod-iff}
+use native.Mathlib.Nat.{mod-lt, le-refl, dvd-mod-iff}
 use native.Mathlib.Omega.{arith}
 use lib.Dec.{eqb}
-use borrow.Author.Tests.{eqb-true, eqb-false, ne-eqb}
+use borrow.Author.Tests.{eqb-false, ne-eqb}
 use Rattle.duration.specs.Duration.{gcdIn, gcdOf}
 
 -- the loop of `gcd`: a and b have the divisor g, found in as many steps as are left, which b bounds
@@ -45,20 +45,7 @@ unfolding gcdIn
 gcd-positive zero a b h = h
 gcd-positive (suc f) a b h = either a b (gcdIn f b (a % b)) (eqb b 0) refl h (λ k. gcd-positive f b (a % b) k)
 
--- it divides both
-module _ (a b g : ℕ) where
-  divides-by : (t : Bool) → eqb b 0 ≡ t → ((b ≡ 0 → ⊥) → (g ∣ b) × (g ∣ a % b)) → (cond t a g ∣ a) × (cond t a g ∣ b)
-  divides-by true e k = (dvd-refl a, rw (eqb-true b 0 e) (dvd-zero a))
-  divides-by false e k = let d = k (eqb-false b 0 e) in (dvd-mod-iff g (d .0) .0 (d .1), d .0)
-
-divides : (f a b : ℕ) → b ≤ f → (gcdIn f a b ∣ a) × (gcdIn f a b ∣ b)
-unfolding gcdIn
-divides zero a b le = let z : b ≡ 0 = omega arith in (dvd-refl a, rw z (dvd-zero a))
-divides (suc f) a b le =
-    divides-by a b (gcdIn f b (a % b)) (eqb b 0) refl
-    (λ nz. let lt : a % b < b = mod-lt a (omega arith) in divides f b (a % b) (omega arith))
-
--- and whatever divides both divides it
+-- whatever divides both divides it
 greatest-by : (d a g : ℕ) (t : Bool) → d ∣ a → d ∣ g → d ∣ cond t a g
 greatest-by d a g true h k = h
 greatest-by d a g false h k = k

@@ -3,9 +3,8 @@ use mathlib.Core.Path.{_≡_, refl, ap}
 use mathlib.Core.Bool.{Bool, true, false, cond}
 use mathlib.Core.List.{List, [], _∷_}
 use Prim.Native.Nat.{ℕ, zero, suc, _*_, _≤_, _<_}
-use native.Mathlib.Nat.{mul-pos}
 use native.Mathlib.Omega.{arith}
-use lib.Dec.{T, eqb, eqb→eq, lit<}
+use lib.Dec.{T, eqb, eqb→eq}
 use Rattle.slices.specs.Finite.{all, below}
 use Rattle.slices.specs.Compare.{sameBytes}
 use Rattle.slices.proofs.CompareLaws.{same-is}
@@ -92,23 +91,3 @@ pub tuplet-agrees : (s : List ℕ) (v actual normal d : ℕ) → durationOf s �
     → SameLength (noteLength v d actual normal false) (dotted d (reciprocalLength s))
 tuplet-agrees s v actual normal d e few =
     rw e at (reference-agrees s d (λ m. clash cc) few)
-
--- ---- the reference's lengths have no denominator 0 either
-added-positive : (d : ℕ) (f : Fraction) → 0 < f .denominator → 0 < added d f .denominator
-unfolding added
-added-positive zero f h = h
-added-positive (suc d) f h = mul-pos (added-positive d f h) (lit< tt)
-
-dotted-positive : (d : ℕ) (f : Fraction) → 0 < f .denominator → 0 < dotted d f .denominator
-unfolding dotted
-dotted-positive zero f h = h
-dotted-positive (suc d) f h = mul-pos (dotted-positive d f h) (added-positive (suc d) f h)
-
-pub reference-positive : (s : List ℕ) (d : ℕ) → (durationOf s ≡ Missing → ⊥) → 0 < dotted d (reciprocalLength s) .denominator
-reference-positive s d h = go (outcome s)
-  where
-    go : Outcome s (durationOf s) → 0 < dotted d (reciprocalLength s) .denominator
-    go (breve e r) = dotted-positive d _ (rw (e, breve-length) (lit< tt))
-    go (longa e r) = dotted-positive d _ (rw (e, longa-length) (lit< tt))
-    go (reciprocal w r) = dotted-positive d _ (rw (worth-length s w) (w .low))
-    go (none _ _ _ r) = absurd (h r)

@@ -2,7 +2,7 @@
 use mathlib.Core.Bool.{Bool, true, false, cond}
 use mathlib.Core.List.{List, [], _∷_, _++_, map, reverse, reverseAux}
 use Prim.Native.Nat.{ℕ, zero, suc, _<_, _^_}
-use lib.ListN.{getD, take, drop, set, replicate}
+use lib.ListN.{getD, take, set, replicate}
 use Rattle.sheet.specs.Fits.{All, u8}
 
 module _ {A : Type 0} (P : A → Type 0) where
@@ -19,11 +19,6 @@ module _ {A : Type 0} (P : A → Type 0) where
   all-set [] i a h k = h
   all-set (x ∷ xs) zero a h k = (k, h .1)
   all-set (x ∷ xs) (suc i) a h k = (h .0, all-set xs i a (h .1) k)
-
-  pub all-drop : (n : ℕ) (xs : List A) → All P xs → All P (drop n xs)
-  all-drop zero xs h = h
-  all-drop (suc n) [] h = h
-  all-drop (suc n) (x ∷ xs) h = all-drop n xs (h .1)
 
   pub all-take : (n : ℕ) (xs : List A) → All P xs → All P (take n xs)
   all-take zero xs h = tt

@@ -2,14 +2,13 @@
 use mathlib.Core.Path.{_≡_, refl, ap, _∙_}
 use Prim.Native.Nat.{ℕ, _+_, _-_, _*_, _≤_, _<_, min}
 use native.Mathlib.Nat.{min-eq-left}
-use native.Mathlib.Numerals.{add-one}
 use native.Mathlib.Omega.{arith}
 use mathlib.Core.List.{List, [], _∷_}
 use mathlib.Core.Bool.{Bool, true, false, _&&_, cond}
 use lib.Dec.{leb}
 use lib.ListN.{length, drop, getD, drop-of-length-le}
-use lib.Seq.{drop-cons}
 use borrow.Author.Tests.{leb-true, leb-false}
+use Rattle.slices.proofs.SplitLaws.{at-index}
 use Rattle.interpretation.proofs.Lists.{both}
 use Rattle.interpretation.specs.Digits.{isDigit, allDigits, decimalOn, decimal}
 use Rattle.interpretation.specs.Number.{numberUpTo}
@@ -51,12 +50,9 @@ unfolding decimal
 reading-first = record { high = omega arith; low = omega arith; digits = refl; value = refl }
 
 module _ {s : List ℕ} {most n i : ℕ} (inv : Reading s most n i) where
-  at-index : i < length s → drop i s ≡ getD s i 0 ∷ drop (i + 1) s
-  at-index h = rw (add-one, drop-cons s i 0)
-
   digits-at : i < length s → allDigits s ≡ (isDigit (getD s i 0) && allDigits (drop (i + 1) s))
   unfolding allDigits
-  digits-at h = inv .digits ∙ ap allDigits (at-index h)
+  digits-at h = inv .digits ∙ ap allDigits (at-index s i h)
 
   pub reading-turn : {m : ℕ} → i < length s → isDigit (getD s i 0) ≡ true → m ≡ min (n * 10 + (getD s i 0 - 48)) most → Reading s most m (i + 1)
   unfolding decimalOn
@@ -67,7 +63,7 @@ module _ {s : List ℕ} {most n i : ℕ} (inv : Reading s most n i) where
         digits = digits-at h ∙ rw d;
         value =
             inv .value
-            ∙ ap (λ (l : List ℕ). min (decimalOn n l) most) (at-index h)
+            ∙ ap (λ (l : List ℕ). min (decimalOn n l) most) (at-index s i h)
             ∙ held (drop (i + 1) s) (n * 10 + (getD s i 0 - 48)) most
             ∙ rw e;
       }

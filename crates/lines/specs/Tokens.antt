@@ -14,10 +14,6 @@ tokensOf = split 9
 unfoldable pub isNull : List ℕ → Bool
 isNull t = sameBytes (ascii ".") t
 
--- `*` alone, with which too short a record is filled
-unfoldable pub isNullInterpretation : List ℕ → Bool
-isNullInterpretation t = sameBytes (ascii "*") t
-
 -- "a header token exactly `**kern`"
 unfoldable pub isKern : List ℕ → Bool
 isKern t = sameBytes (ascii "**kern") t

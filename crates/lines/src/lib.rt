@@ -4,7 +4,7 @@ ghost use Prim.Native.Nat.{_+_, _≤_};
 ghost use mathlib.Core.Bool.{true};
 ghost use lib.ListN.{length, getD};
 ghost use Rattle.lines.specs.Lines.{pieceEnd, withoutCRs, kindOf};
-ghost use Rattle.lines.specs.Tokens.{tokensOf, isNull, isNullInterpretation, isKern, isExclusive, isStar, isEmpty};
+ghost use Rattle.lines.specs.Tokens.{tokensOf, isNull, isKern, isExclusive, isStar, isEmpty};
 
 // What a line begins with.
 pub enum Kind {
@@ -114,13 +114,6 @@ pub fn is_null(token: &[u8]) -> bool
         return false;
     }
     token[0] == b'.'
-}
-
-// Whether a token is `*`, the null interpretation.
-pub fn is_null_interpretation(token: &[u8]) -> bool
-    ensures { λ r. ⌜ r ≡ isNullInterpretation (now (token .entry)) ⌝ }
-{
-    slices::same(token, b"*")
 }
 
 // Whether a token is `**kern`.

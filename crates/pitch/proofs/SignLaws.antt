@@ -19,11 +19,6 @@ altered-byte a sign h = go (eqb sign 35) (eqb sign 45) (eqb sign 110)
     go false false true = omega arith
     go false false false = h
 
-pub signs-byte : (a : ℕ) (l : List ℕ) → a < 256 → signs a l < 256
-unfolding signs
-signs-byte a [] h = h
-signs-byte a (sign ∷ l) h = signs-byte (alteredBy a sign) l (altered-byte a sign h)
-
 pub signs-append : (a : ℕ) (l m : List ℕ) → signs a (l ++ m) ≡ signs (signs a l) m
 unfolding signs
 signs-append a [] m = refl

@@ -17,10 +17,11 @@ use Rattle.items.specs.declared.Item.the-variants.{Letters}
 use Rattle.token.specs.Token.{badLength, upToBlank, marks, countOf, graceFrom, begun, heard, anyOf, passes, signifiers}
 use Rattle.token.specs.declared.pitches.Tone.{Tone}
 use Rattle.token.specs.declared.pitches.Sound.the-variants.{Silence}
+use Rattle.items.proofs.NextLaws.{letter-no-digit}
 use Rattle.plain.specs.Usual.{oddBytes, markBytes, signBytes, allIn, carried, Said, saidBy, PitchOf, SoundOf, rests, sings}
 use Rattle.plain.proofs.PieceLaws.{carried-append}
 use Rattle.plain.proofs.ByteLaws.{clash, each, each-in}
-use Rattle.plain.proofs.ItemLaws.{single, marked, begins, items-marks, items-letters, letter-of, letter-no-digit, not-letter}
+use Rattle.plain.proofs.ItemLaws.{single, marked, begins, items-marks, items-letters, letter-of, not-letter}
 use Rattle.plain.proofs.AspectLaws.{each-head, each-tail, differs, graceless, natural, bad-marks, bad-letters, bad-none, up-only, up-letters, marks-only, marks-letters, count-none, contains-none, grace-none, still-over, heard-before, heard-behind, natural-over, not-odd, signifiers-marks, signifiers-none}
 
 -- the sound and the marks of a token, its items, and what is known of them

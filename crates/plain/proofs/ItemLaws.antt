@@ -4,9 +4,9 @@ use Prim.Native.Nat.{ℕ, suc}
 use native.Mathlib.Omega.{arith}
 use mathlib.Core.List.{List, [], _∷_, _++_}
 use mathlib.Core.Bool.{Bool, true, false, cond, not, _&&_, _||_}
-use lib.Dec.{eqb, leb}
+use lib.Dec.{eqb}
 use lib.ListN.{length}
-use borrow.Author.Tests.{eq-eqb, eqb-true, leb-true, not-true}
+use borrow.Author.Tests.{eq-eqb, eqb-true, not-true}
 use Rattle.notation.specs.Search.{contains}
 use Rattle.pitch.specs.Pitch.{within, pitchOf}
 use Rattle.pitch.specs.declared.Pitch.{Pitch}
@@ -15,8 +15,7 @@ use Rattle.duration.specs.Duration.{durationOf}
 use Rattle.items.specs.Items.{isDigit, isLetter, joins, into, runs, itemOf, itemsOf, items}
 use Rattle.items.specs.declared.Item.{Item}
 use Rattle.items.specs.declared.Item.the-variants.{Digits, Letters, Mark}
-use Rattle.plain.specs.Usual.{digitBytes}
-use Rattle.plain.proofs.ByteLaws.{clash, each, among, digit-in}
+use Rattle.plain.proofs.ByteLaws.{clash, each, among}
 use Rattle.slices.proofs.CompareLaws.{and-left, and-right}
 use Rattle.items.proofs.NextLaws.{digit-joins}
 
@@ -132,15 +131,6 @@ not-letter word e c l = go (contains c word) refl
   where
     go : (t : Bool) → contains c word ≡ t → contains c word ≡ false
     go true q = absurd (clash l (not-true (isLetter c) (among (λ x. not (isLetter x)) word e c q)))
-    go false q = q
-
-pub letter-no-digit : (c : ℕ) → isLetter c ≡ true → isDigit c ≡ false
-unfolding isLetter within each
-letter-no-digit c l = go (isDigit c) refl
-  where
-    go : (t : Bool) → isDigit c ≡ t → isDigit c ≡ false
-    go true q =
-        absurd (clash (digit-in c (leb-true 48 c (and-left (leb 48 c) (leb c 57) q)) (leb-true c 57 (and-right (leb 48 c) (leb c 57) q))) (not-letter digitBytes refl c l))
     go false q = q
 
 pub begins-over : (test : ℕ → Bool) (xs rest : List ℕ) → each (λ x. not (test x)) xs ≡ true → begins test rest ≡ false

@@ -23,7 +23,8 @@ use Rattle.state.specs.View.{stateOf, ending, landed, told, toldRow}
 use Rattle.notes.specs.Spot.{Kept}
 use Rattle.state.proofs.ViewLaws.{landed-behind}
 use Rattle.writing.specs.Kept.{noticeOf, keptRecords, afterKept}
-use Rattle.writing.proofs.KeptLaws.{Same, kept-same, notify-told}
+use Rattle.writing.specs.Kept.{Same}
+use Rattle.writing.proofs.KeptLaws.{kept-same, notify-told}
 
 -- a result that was told, and a step behind it
 pub landed-told : (u : Tally) (cells parts out' : List ℕ) (r : Result) (f : State → Step) (out : List ℕ) (at : ℕ)

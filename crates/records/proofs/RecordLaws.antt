@@ -26,7 +26,8 @@ use Rattle.state.specs.declared.Step.the-variants.{Goes, Ends}
 use Rattle.state.specs.Lay.{laid}
 use Rattle.state.specs.View.{stateOf, Landed, stopped, landed, told, toldRow}
 use Rattle.writing.specs.Kept.{noticeOf, keptRecords, afterKept}
-use Rattle.writing.proofs.KeptLaws.{Same, kept-same, notify-told}
+use Rattle.writing.specs.Kept.{Same}
+use Rattle.writing.proofs.KeptLaws.{kept-same, notify-told}
 use Rattle.records.specs.Here.{Under, Here, Evenly}
 use Rattle.records.proofs.OutcomeLaws.{landed-told, none-left, some-left, ends-told, quiet-told}
 use Rattle.records.proofs.KindLaws.{row-length}

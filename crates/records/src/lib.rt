@@ -21,7 +21,7 @@ ghost use Rattle.reading.specs.Notes.{readData};
 ghost use Rattle.reading.specs.Records.{noticeRepair, isRecord, byKind, onRow, onRecord, readLine};
 ghost use Rattle.state.specs.View.{stateOf, landed, told, toldRow};
 ghost use Rattle.state.specs.declared.Step.the-variants.{Goes};
-ghost use Rattle.writing.proofs.KeptLaws.{Same};
+ghost use Rattle.writing.specs.Kept.{Same};
 ghost use Rattle.records.specs.Here.{Under, Here, Evenly};
 
 // The number of the notice that says of a repair; 0 is none.

@@ -45,7 +45,7 @@ fn note_of(inferred: bool, value: u8, actual: u8, normal: u8, s: Scan) -> Note
     }
 }
 
-// A token of a length that was read, inferred or set.
+// A token of a length that was read or set; Missing gives 19.
 fn noted(inferred: bool, v: Value, s: Scan) -> Outcome
     ensures { λ r. ⌜ r ≡ noted inferred v s ⌝ }
 {

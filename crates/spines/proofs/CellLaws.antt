@@ -10,6 +10,7 @@ use lib.Seq.{take-suc, drop-cons, getD-drop}
 use native.Mathlib.Numerals.{add-one}
 use borrow.Author.Tests.{eq-eqb, ne-eqb, lt-ltb, le-ltb, eqb-false, ltb-true, ltb-false}
 use Rattle.paths.specs.Row.{Spine, line, branch, outside, branchFrom}
+use Rattle.paths.specs.Text.{spineAt}
 use Rattle.spines.specs.Cells.{spineOf, rowOf, isBranch}
 
 -- ---- one cell
@@ -114,3 +115,10 @@ branch-test c h = go (ltb 3 (c % 8)) refl
 pub row-length : (cells : List ℕ) → length (rowOf cells) ≡ length cells
 unfolding rowOf
 row-length cells = length-map cells spineOf
+
+-- a column of the row
+pub cell-at : (s : List ℕ) (i : ℕ) → i < length s → spineAt (rowOf s) i ≡ spineOf (getD s i 0)
+unfolding rowOf
+cell-at [] i h = absurd (omega arith)
+cell-at (c ∷ s) zero h = refl
+cell-at (c ∷ s) (suc i) h = cell-at s i (omega arith)

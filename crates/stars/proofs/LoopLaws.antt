@@ -19,10 +19,9 @@ use Rattle.paths.specs.declared.PathToken.the-variants.{Other}
 use Rattle.paths.specs.Token.{pathToken, isExchange}
 use Rattle.paths.specs.Trace.{tokenAt, exchangesRight, exchangesLeft}
 use Rattle.paths.specs.Row.{Spine, line, branch, outside}
-use Rattle.paths.specs.Text.{spineAt}
 use Rattle.spines.specs.Cells.{spineOf, rowOf}
 use Rattle.spines.specs.Tokens.{pathTokens}
-use Rattle.spines.proofs.CellLaws.{row-drop, row-none}
+use Rattle.spines.proofs.CellLaws.{cell-at, row-drop, row-none}
 use Rattle.reading.specs.State.{State, Result, goes}
 use Rattle.reading.specs.Notices.{Token, placed, quiet, after}
 use Rattle.reading.specs.Star.{interpret, columnBy, paired, readColumns}
@@ -138,13 +137,6 @@ loop-first {text} {cells} {number} {offset} {parts} {out} {tally} = record {
       (sym (zero-off (length cells))) (sym (all-pieces 9 text));
 }
 
--- a column of the row
-row-at : (cells : List ℕ) (i : ℕ) → i < length cells → spineAt (rowOf cells) i ≡ spineOf (getD cells i 0)
-unfolding rowOf
-row-at [] i h = absurd (omega arith)
-row-at (c ∷ cells) zero h = refl
-row-at (c ∷ cells) (suc i) h = row-at cells i (omega arith)
-
 module _ {text cells : List ℕ} {number offset : ℕ} {parts₀ out₀ : List ℕ} {tally : Tally} {parts out : List ℕ} {t : Tally} {left : Bool} {from i : ℕ}
     (inv : Loop text cells number offset parts₀ out₀ tally parts out t left from i) where
   pub loop-fit : {e : ℕ} → Ready cells parts₀ tally → offset + length text < 2 ^ 27 → i < length cells → Piece 9 text from e
@@ -155,7 +147,7 @@ module _ {text cells : List ℕ} {number offset : ℕ} {parts₀ out₀ : List �
       record {
         parts-long = inv .long ∙ ready .parts-long;
         parts-few = omega (arith, inv .held .parts, ready .parts-few);
-        within = λ (p v : ℕ) q. omega (arith, inv .held .parts, ready .within i p v (row-at cells i low ∙ q));
+        within = λ (p v : ℕ) q. omega (arith, inv .held .parts, ready .within i p v (cell-at cells i low ∙ q));
         small = omega (arith, piece .low, piece .high);
       }
 

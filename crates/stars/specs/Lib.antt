@@ -1,3 +1,3 @@
--- What a star record sets, as the code takes it apart.
+-- The columns of a star record, and its answer, as the code takes them apart.
 pub mod Columns
 pub mod Next

@@ -149,13 +149,6 @@ fn give_of(next: &mut [u16], count: usize, masks: &mut [u8]) -> Given
     give(&mut next[..n], masks)
 }
 
-// Gives the branches among the first `count` cells, at most 512, their voices. Whatever the masks held before.
-pub fn give_voices(next: &mut [u16; 512], count: usize, masks: &mut [u8; 8192]) -> Given
-    ensures { λ r. ⌜ givenOf r (take (min count 512) (now (next .exit))) ≡ voiceRow (rowOf (take (min count 512) (now (next .entry)))) ⌝ }
-{
-    give_of(next, count, masks)
-}
-
 // What a star record comes to: the next row's count; question 8 with a part; question 9 with a count.
 pub enum Step {
     Next(usize),

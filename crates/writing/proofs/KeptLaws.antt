@@ -13,14 +13,7 @@ use Rattle.state.specs.declared.Tally.{Tally}
 use Rattle.state.specs.declared.Step.the-variants.{Goes}
 use Rattle.state.specs.Lay.{laid, behind}
 use Rattle.state.specs.View.{stateOf, going, landed, told}
-use Rattle.writing.specs.Kept.{noticeOf, counted, keptRecords, afterKept}
-
--- the counts that a notice leaves as they are
-pub record Same (a b : Tally) : Type 0 where
-  pub active : a .active ≡ b .active
-  pub parts : a .parts ≡ b .parts
-  pub bars : a .bars ≡ b .bars
-  pub notes : a .notes ≡ b .notes
+use Rattle.writing.specs.Kept.{Same, noticeOf, counted, keptRecords, afterKept}
 
 module _ (t : Tally) (n : Notice) (bytes : List ℕ) where
   pub kept-at : afterKept t n bytes .at ≡ behind (t .at) (keptRecords t n bytes)

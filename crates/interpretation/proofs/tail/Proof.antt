@@ -1,6 +1,7 @@
 -- `tail` meets its contract: a part from n on is what is left behind n bytes.
 use borrow.Author.Needs.{needs}
-use Rattle.interpretation.proofs.Lists.{rest-of, no-rest}
+use Rattle.interpretation.proofs.Lists.{no-rest}
+use Rattle.slices.proofs.PieceLaws.{rest}
 use Rattle.interpretation.proofs.tail.Statement.{statement}
 use Rattle.interpretation.proofs.tail.Tie as tie
 
@@ -14,7 +15,7 @@ part-result-end : tie.Need-part-result-end
 part-result-end c = search needs
 
 returns : tie.Need-returns
-returns c = rest-of (c .before .before .args .n) (c .before .before .args .s .now)
+returns c = rest (c .before .before .args .s .now) (c .before .before .args .n)
 
 sub-result-2 : tie.Need-sub-result-2
 sub-result-2 c = search needs

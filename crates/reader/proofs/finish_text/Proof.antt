@@ -5,31 +5,22 @@ use Rattle.state.specs.View.{stateOf}
 use Rattle.reader.proofs.FinishLaws.{not-begun, no-note, some-note}
 use Rattle.reader.proofs.finish_text.Statement.{statement}
 use Rattle.reader.proofs.finish_text.Tie as tie
-use Rattle.reader.proofs.finish_text.Reads as reads
-use Rattle.reader.proofs.finish_text.Lts as lts
-use Rattle.bars.proofs.finish.Reads as finish-reads
 
--- src/lib.rt:72:13
 returns : tie.Need-returns
 returns c = λ (cells : List ℕ). no-note (stateOf cells (c .before .before .before .before .before .args .parts .now) (c .before .before .before .before .before .args .tally)) (c .before .before .before .before .before .args .tally .at) (c .before .before .before .before .before .args .out .now) (c .before .before .if1 .taken) (c .if2 .taken)
 
--- src/lib.rt:80:13
 finish-requires : tie.Need-finish-requires
 finish-requires c κs = search needs
 
--- src/lib.rt:81:9
 same-length : tie.Need-same-length
 same-length c = search needs
 
--- src/lib.rt:81:9
 same-length-2 : tie.Need-same-length-2
 same-length-2 c = search needs
 
--- src/lib.rt:81:9
 returns-2 : tie.Need-returns-2
 returns-2 c = λ (cells : List ℕ). some-note cells (c .before .before .before .before .before .before .before .before .before .before .before .before .args .parts .now) (c .before .before .before .before .before .before .before .before .before .before .before .before .args .tally) (c .before .before .before .before .before .before .before .before .before .before .before .before .args .out .now) (c .before .before .before .before .before .before .before .before .before .if1 .taken) (c .before .before .before .before .before .before .before .if2 .left) (c .before .before .before .before .finish .ensures cells)
 
--- src/lib.rt:66:1
 returns-3 : tie.Need-returns-3
 returns-3 c = λ (cells : List ℕ). not-begun (stateOf cells (c .before .before .before .args .parts .now) (c .before .before .before .args .tally)) (c .before .before .before .args .tally .at) (c .before .before .before .args .out .now) (c .if1 .left)
 

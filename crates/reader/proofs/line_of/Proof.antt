@@ -6,31 +6,22 @@ use borrow.Author.Needs.{needs}
 use Rattle.lines.proofs.TrimLaws.{content-take}
 use Rattle.reader.proofs.line_of.Statement.{statement}
 use Rattle.reader.proofs.line_of.Tie as tie
-use Rattle.reader.proofs.line_of.Reads as reads
-use Rattle.reader.proofs.line_of.Lts as lts
-use Rattle.lines.proofs.content.Reads as content-reads
 
--- src/lib.rt:100:16
 sub-line : tie.Need-sub-line
 sub-line c = search needs
 
--- src/lib.rt:100:16
 part-line-start : tie.Need-part-line-start
 part-line-start c = search needs
 
--- src/lib.rt:100:16
 part-line-end : tie.Need-part-line-end
 part-line-end c = search needs
 
--- src/lib.rt:101:9
 content-requires : tie.Need-content-requires
 content-requires c κs = search needs
 
--- src/lib.rt:102:5
 slice-aggregate-result : tie.Need-slice-aggregate-result
 slice-aggregate-result c = sym (length-take-le (c .before .content .result) (take (c .before .before .before .before .args .end - c .before .before .before .before .args .from) (drop (c .before .before .before .before .args .from) (c .before .before .before .before .args .text .now))) (c .before .content .ensures .1))
 
--- src/lib.rt:96:1
 returns : tie.Need-returns
 returns c = ap (λ (n : ℕ). take n (take (c .before .before .before .before .args .end - c .before .before .before .before .args .from) (drop (c .before .before .before .before .args .from) (c .before .before .before .before .args .text .now)))) (c .before .content .ensures .0) ∙ content-take (take (c .before .before .before .before .args .end - c .before .before .before .before .args .from) (drop (c .before .before .before .before .args .from) (c .before .before .before .before .args .text .now)))
 

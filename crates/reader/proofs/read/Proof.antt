@@ -4,65 +4,46 @@ use borrow.Author.Needs.{needs}
 use Rattle.reader.proofs.AnswerLaws.{answers-refused, answers-short, answers-written, too-long, not-utf8-at, utf8-whole, measured-long, told-written, told-refused}
 use Rattle.reader.proofs.read.Statement.{statement}
 use Rattle.reader.proofs.read.Tie as tie
-use Rattle.reader.proofs.read.Reads as reads
-use Rattle.reader.proofs.read.Lts as lts
-use Rattle.reader.proofs.measure.Reads as measure-reads
-use Rattle.reader.proofs.write_sheet.Reads as write-sheet-reads
-use Rattle.utf8.proofs.utf8_length.Reads as utf8-length-reads
 
--- src/lib.rt:159:9
 returns : tie.Need-returns
 returns c = answers-refused (c .before .before .before .args .text .now) (c .before .before .before .args .out .now) 1 0 _ (too-long (c .before .before .before .args .text .now) (c .if1 .taken))
 
--- src/lib.rt:165:9
 utf8-length-requires : tie.Need-utf8-length-requires
 utf8-length-requires c κs = search needs
 
--- src/lib.rt:167:9
 returns-2 : tie.Need-returns-2
 returns-2 c = answers-refused (c .before .before .before .before .before .args .text .now) (c .before .before .before .before .before .args .out .now) 2 0 _ (not-utf8-at (c .before .before .before .before .before .args .text .now) (c .before .before .if1 .left) (c .if2 .taken) (c .before .utf8-length .ensures .0))
 
--- src/lib.rt:173:11
 measure-requires : tie.Need-measure-requires
 measure-requires c κs = search needs
 
--- src/lib.rt:175:13
 enum-known-number : tie.Need-enum-known-number
 enum-known-number c = search needs
 
--- src/lib.rt:184:13
 enum-known-parts : tie.Need-enum-known-parts
 enum-known-parts c = search needs
 
--- src/lib.rt:188:28
 add-if3 : tie.Need-add-if3
 add-if3 c = omega (arith, measured-long (told-written (c .before .before .before .before .before .before .before .before .before .args .text .now) (c .before .before .before .measure .result) (c .before .before .before .measure .ensures) (c .before .parts .given .1)))
 
--- src/lib.rt:192:29
 add-t18 : tie.Need-add-t18
 add-t18 c = omega (arith, measured-long (told-written (c .before .before .before .before .before .before .before .before .before .before .args .text .now) (c .before .before .before .before .measure .result) (c .before .before .before .before .measure .ensures) (c .before .before .parts .given .1)))
 
--- src/lib.rt:189:17
 returns-3 : tie.Need-returns-3
 returns-3 c = answers-short (c .before .before .before .before .before .before .before .before .before .before .args .out .now) (told-written (c .before .before .before .before .before .before .before .before .before .before .args .text .now) (c .before .before .before .before .measure .result) (c .before .before .before .before .measure .ensures) (c .before .before .parts .given .1)) (c .if3 .taken)
 
--- src/lib.rt:195:13
 write-sheet-requires : tie.Need-write-sheet-requires
 write-sheet-requires c κs = (c .before .before .before .before .before .before .before .before .if1 .left, (utf8-whole (c .before .before .before .before .before .before .before .before .before .before .before .args .text .now) (c .before .before .before .before .before .before .before .utf8-length .ensures) (c .before .before .before .before .before .before .if2 .left), (told-written (c .before .before .before .before .before .before .before .before .before .before .before .args .text .now) (c .before .before .before .before .before .measure .result) (c .before .before .before .before .before .measure .ensures) (c .before .before .before .parts .given .1), c .before .if3 .left)))
 
--- src/lib.rt:196:30
 add-t15 : tie.Need-add-t15
 add-t15 c = search needs
 
--- src/lib.rt:151:1
 returns-4 : tie.Need-returns-4
 returns-4 c = answers-refused (c .before .before .before .before .before .before .before .before .before .args .text .now) (c .before .before .before .before .before .before .before .before .before .args .out .now) _ _ _ (told-refused (c .before .before .before .before .before .before .before .before .before .args .text .now) (c .before .before .before .measure .result) (c .before .before .before .measure .ensures) (c .before .number .given .1))
 
--- src/lib.rt:151:1
 same-length : tie.Need-same-length
 same-length c = search needs
 
--- src/lib.rt:151:1
 returns-5 : tie.Need-returns-5
 returns-5 c = answers-written {text = c .before .before .before .before .before .before .before .before .before .before .before .before .before .before .args .text .now} (c .before .before .before .before .before .before .before .before .before .before .before .before .before .before .args .out .now) (λ (i : ℕ). omega (arith, c .before .before .before .before .before .before .before .before .before .before .before .before .before .shared-slice-known .given i)) (told-written (c .before .before .before .before .before .before .before .before .before .before .before .before .before .before .args .text .now) (c .before .before .before .before .before .before .before .before .measure .result) (c .before .before .before .before .before .before .before .before .measure .ensures) (c .before .before .before .before .before .before .parts .given .1)) (c .before .before .before .before .if3 .left) (c .before .before .write-sheet .ensures)
 

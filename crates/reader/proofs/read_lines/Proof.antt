@@ -8,17 +8,6 @@ use Rattle.state.specs.declared.Tally.{Tally}
 use Rattle.reader.proofs.LoopLaws.{Reading, reading-first, reading-past, inside-of, nearer, passed-here, here, refused-here, ends-here, ends-small, goes-here, at-end}
 use Rattle.reader.proofs.read_lines.Statement.{statement}
 use Rattle.reader.proofs.read_lines.Tie as tie
-use Rattle.reader.proofs.read_lines.Reads as reads
-use Rattle.reader.proofs.read_lines.Lts as lts
-use Rattle.lines.proofs.line_kind.Reads as line-kind-reads
-use Rattle.place.proofs.past_line.Reads as past-line-reads
-use Rattle.reader.proofs.finish_text.Reads as finish-text-reads
-use Rattle.reader.proofs.is_passed.Reads as is-passed-reads
-use Rattle.reader.proofs.line_of.Reads as line-of-reads
-use Rattle.reader.proofs.no_tally.Reads as no-tally-reads
-use Rattle.reader.proofs.room.Reads as room-reads
-use Rattle.records.proofs.begun_after.Reads as begun-after-reads
-use Rattle.records.proofs.read_line.Reads as read-line-reads
 
 abbrev Inv-loop : tie.InvT-loop
 Inv-loop text row₀ new₀ masks₀ parts₀ out₀ tally₀ begun₀ number₀ from₀ row new masks parts out tally begun number from =

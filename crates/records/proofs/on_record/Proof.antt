@@ -3,40 +3,28 @@ use Rattle.records.proofs.RecordLaws.{behind-header, at-header}
 use borrow.Author.Needs.{needs}
 use Rattle.records.proofs.on_record.Statement.{statement}
 use Rattle.records.proofs.on_record.Tie as tie
-use Rattle.records.proofs.on_record.Reads as reads
-use Rattle.records.proofs.on_record.Lts as lts
-use Rattle.header.proofs.read_header.Reads as read-header-reads
-use Rattle.records.proofs.read_record.Reads as read-record-reads
 
--- src/lib.rt:210:9
 read-record-requires : tie.Need-read-record-requires
 read-record-requires c κs = search needs
 
--- src/lib.rt:210:9
 same-length : tie.Need-same-length
 same-length c = search needs
 
--- src/lib.rt:210:9
 same-length-2 : tie.Need-same-length-2
 same-length-2 c = search needs
 
--- src/lib.rt:210:9
 returns : tie.Need-returns
 returns c = behind-header (c .before .before .before .before .before .before .before .before .before .before .before .before .before .before .args .begun) _ (c .before .before .before .before .before .before .before .before .before .before .before .before .before .before .args .line .now) (c .before .before .before .before .before .before .before .before .before .before .before .before .before .before .args .out .now) (take (c .before .before .before .before .before .before .before .before .before .before .before .before .before .before .args .tally .active) (c .before .before .before .before .before .before .before .before .before .before .before .before .before .before .args .row .now)) (c .before .before .before .before .before .before .before .before .before .before .before .before .before .before .args .parts .now) (c .before .before .before .before .before .before .before .before .before .before .before .before .before .before .args .tally) (c .before .before .before .before .before .before .before .before .before .before .before .before .before .before .args .number) (c .before .before .before .before .before .before .before .before .before .before .before .before .before .before .args .offset) (c .before .before .before .before .before .before .before .before .before .before .if1 .taken) (c .before .before .before .before .read-record .ensures)
 
--- src/lib.rt:223:5
 read-header-requires : tie.Need-read-header-requires
 read-header-requires c κs = search needs
 
--- src/lib.rt:193:1
 same-length-3 : tie.Need-same-length-3
 same-length-3 c = search needs
 
--- src/lib.rt:193:1
 same-length-4 : tie.Need-same-length-4
 same-length-4 c = search needs
 
--- src/lib.rt:193:1
 returns-2 : tie.Need-returns-2
 returns-2 c = at-header (c .before .before .before .before .before .before .before .before .before .before .before .before .args .begun) _ (c .before .before .before .before .before .before .before .before .before .before .before .before .args .line .now) (c .before .before .before .before .before .before .before .before .before .before .before .before .args .out .now) (take (c .before .before .before .before .before .before .before .before .before .before .before .before .args .tally .active) (c .before .before .before .before .before .before .before .before .before .before .before .before .args .row .now)) (c .before .before .before .before .before .before .before .before .before .before .before .before .args .parts .now) (c .before .before .before .before .before .before .before .before .before .before .before .before .args .tally) (c .before .before .before .before .before .before .before .before .before .before .before .before .args .number) (c .before .before .before .before .before .before .before .before .before .before .before .before .args .offset) (c .before .before .before .before .before .before .before .before .if1 .left) (c .before .before .before .before .read-header .ensures (take (c .before .before .before .before .before .before .before .before .before .before .before .before .args .tally .active) (c .before .before .before .before .before .before .before .before .before .before .before .before .args .row .now)))
 

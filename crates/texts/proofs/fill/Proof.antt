@@ -4,9 +4,6 @@ use lib.ListN.{length}
 use borrow.Author.Needs.{needs}
 use Rattle.texts.proofs.fill.Statement.{statement}
 use Rattle.texts.proofs.fill.Tie as tie
-use Rattle.texts.proofs.fill.Reads as reads
-use Rattle.texts.proofs.fill.Lts as lts
-use Rattle.slices.proofs.put.Reads as put-reads
 
 abbrev Inv-loop : tie.InvT-loop
 Inv-loop text₀ once unit times at₀ k₀ text at k = (at ≤ length text) × (length text ≡ length text₀)

@@ -3,13 +3,6 @@ use lib.ListN.{length}
 use borrow.Author.Needs.{needs}
 use Rattle.texts.proofs.main.Statement.{statement}
 use Rattle.texts.proofs.main.Tie as tie
-use Rattle.texts.proofs.main.Reads as reads
-use Rattle.texts.proofs.main.Lts as lts
-use Rattle.io.proofs.read_full.Reads as read-full-reads
-use Rattle.slices.proofs.find.Reads as find-reads
-use Rattle.slices.proofs.piece.Reads as piece-reads
-use Rattle.texts.proofs.answer_repeated.Reads as answer-repeated-reads
-use Rattle.texts.proofs.number_of.Reads as number-of-reads
 
 abbrev Inv-loop : tie.InvT-loop
 Inv-loop n texts from₀ from = from ≤ length texts + 400000

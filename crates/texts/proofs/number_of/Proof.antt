@@ -3,8 +3,6 @@ use Prim.Native.Nat.{_-_, _≤_}
 use lib.ListN.{length}
 use Rattle.texts.proofs.number_of.Statement.{statement}
 use Rattle.texts.proofs.number_of.Tie as tie
-use Rattle.texts.proofs.number_of.Reads as reads
-use Rattle.texts.proofs.number_of.Lts as lts
 
 abbrev Inv-loop : tie.InvT-loop
 Inv-loop digits n₀ i₀ n i = (n ≤ 100005) × (i ≤ length digits)
@@ -12,39 +10,30 @@ Inv-loop digits n₀ i₀ n i = (n ≤ 100005) × (i ≤ length digits)
 abbrev μ-loop : tie.MeasureT-loop
 μ-loop digits n₀ i₀ n i = length digits - i
 
--- src/main.rt:21:5
 loop-holds : tie.Need-loop-holds Inv-loop μ-loop
 loop-holds c = search needs
 
--- src/main.rt:22:13
 mul-n : tie.Need-mul-n Inv-loop μ-loop
 mul-n c = search needs
 
--- src/main.rt:22:33
 shared-slice-read-n : tie.Need-shared-slice-read-n Inv-loop μ-loop
 shared-slice-read-n c = search needs
 
--- src/main.rt:22:32
 cast-n : tie.Need-cast-n Inv-loop μ-loop
 cast-n c = search needs
 
--- src/main.rt:22:13
 add-n : tie.Need-add-n Inv-loop μ-loop
 add-n c = search needs
 
--- src/main.rt:23:9
 add-i : tie.Need-add-i Inv-loop μ-loop
 add-i c = search needs
 
--- src/main.rt:21:5
 loop-less : tie.Need-loop-less Inv-loop μ-loop
 loop-less c = search needs
 
--- src/main.rt:21:5
 loop-again : tie.Need-loop-again Inv-loop μ-loop
 loop-again c = search needs
 
--- src/main.rt:16:1
 returns : tie.Need-returns Inv-loop μ-loop
 returns c = search needs
 
