@@ -6,6 +6,7 @@ use mathlib.Core.List.{List, [], _∷_, _++_, map, reverse, append-nil, append-a
 use mathlib.Core.Path.{_≡_, refl, sym, ap, subst, _∙_}
 use lib.Dec.{eqb, leb}
 use lib.ListN.{length, length-append}
+use Rattle.slices.proofs.TestLaws.{clash}
 use Rattle.lines.specs.Lines.{linesOf, withoutCRs, kindOf}
 use Rattle.utf8.specs.Utf8.{utf8Length}
 use Rattle.paths.specs.Record.{Rec}
@@ -64,12 +65,12 @@ finish-played begun before st {items} {parts} {notes} {rs} a c = go begun (eqb (
     silent = notes-append before tail ∙ ap (λ (l : List _). notesOf before ++ l) (notes-append (lastClosing st .records) (lastRecords (lastClosing st .state))) ∙ rw (closing-silent st, last-silent (lastClosing st .state)) (append-nil (notesOf before))
 
     go : (b none : Bool) → cond b (cond none (refusal 12 0 0) (accepted (length (st .parts)) (st .notes) (before ++ tail))) (refusal 11 0 0) ≡ accepted parts notes rs → Played items notes rs
-    go true true e = absurd (let z : _≡_ {A = ℕ} 0 1 = cc in omega arith)
+    go true true e = clash cc
     go true false e =
         let same : before ++ tail ≡ rs = cc in
         let many : st .notes ≡ notes = cc in
         record { agree = rw (← same, silent) a; count = sym many ∙ c }
-    go false none e = absurd (let z : _≡_ {A = ℕ} 0 1 = cc in omega arith)
+    go false none e = clash cc
 
 -- ---- the lines behind the header
 
@@ -85,7 +86,7 @@ module _ (h : List Bool) (recs : ℕ → Rec) (parts notes : ℕ) (rs : List Rec
     where
       go : (s : Step) → readLine true (k + 1) offset (withoutCRs l) st ≡ s → carryOn true (k + 1) (offset + length l + 1) before ls s ≡ accepted parts notes rs
           → Played (done ++ rest h recs n st (recordsFrom k (l ∷ ls))) notes rs
-      go (refused q m f) i e = absurd (let z : _≡_ {A = ℕ} 0 1 = cc in omega arith)
+      go (refused q m f) i e = clash cc
       go (goes r) i e =
           let p : Passed h recs n k st l ls r = passed h recs n k offset st l ls r here i in
           let many : r .state .notes ≡ length (done ++ p .items) = omega (arith, p .notes, length-append done (p .items)) in
@@ -119,7 +120,7 @@ module _ (parts notes : ℕ) (rs : List Record) where
 
       header : (s : Step) → onRecord false (k + 1) offset (withoutCRs l) st ≡ s → carryOn true (k + 1) (offset + length l + 1) before ls s ≡ accepted parts notes rs
           → Played (accountIn (x ∷ recordsFrom (k + 1) ls)) notes rs
-      header (refused q m f) i e = absurd (let z : _≡_ {A = ℕ} 0 1 = cc in omega arith)
+      header (refused q m f) i e = clash cc
       header (goes r) i e =
           let g : Begins x (recordsFrom (k + 1) ls) st r = begins x (recordsFrom (k + 1) ls) offset st r i in
           let none : r .state .bars ≡ 0 = g .bars ∙ b in
@@ -143,7 +144,7 @@ module _ (parts notes : ℕ) (rs : List Record) where
 
   pub text-played : (k offset : ℕ) (ls : List (List ℕ)) → FromStart k offset ls
   unfolding readLines finish
-  text-played k offset [] = λ before st a b c e. absurd (let z : _≡_ {A = ℕ} 0 1 = cc in omega arith)
+  text-played k offset [] = λ before st a b c e. clash cc
   text-played k offset (l ∷ ls) = first-line k offset l ls (text-played (k + 1) (offset + length l + 1) ls)
 
 -- "In an accepted text's sheet there are as many NOTEs .. as taken records have note tokens. The k-th NOTE has the part, voice, bar, line, column,
@@ -157,5 +158,5 @@ accepted-notes text parts notes rs = go (leb (length text) 67108864) (eqb (utf8L
         → Agree (notesOf rs) (account text) × (notes ≡ length (account text))
     go true true e =
         let p : Played (accountIn (recordsFrom 0 (linesOf text))) notes rs = text-played parts notes rs 0 0 (linesOf text) [] start silent refl refl e in (p .agree, p .count)
-    go true false e = absurd (let z : _≡_ {A = ℕ} 0 1 = cc in omega arith)
-    go false b e = absurd (let z : _≡_ {A = ℕ} 0 1 = cc in omega arith)
+    go true false e = clash cc
+    go false b e = clash cc

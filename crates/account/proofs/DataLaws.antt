@@ -7,6 +7,7 @@ use mathlib.Core.Option.{Option, none, some}
 use mathlib.Core.Path.{_≡_, refl, sym, ap, subst, _∙_}
 use lib.Dec.{eqb, ltb}
 use lib.ListN.{length, set, length-set}
+use Rattle.slices.proofs.TestLaws.{and-left, and-right}
 use Rattle.lines.specs.Tokens.{isNull}
 use Rattle.duration.specs.Length.{SameLength, noteLength}
 use Rattle.token.specs.Account.{isNote, accountLength}
@@ -24,7 +25,6 @@ use Rattle.reading.specs.Notes.{bit, flagsOf, sounded, noteRecord, addNote, beh
 use Rattle.account.specs.Account.{Item, inferredOf, itemOf, itemIn, itemsFrom}
 use Rattle.account.specs.Agree.{playedLength, both-end, one-more}
 use Rattle.account.proofs.ResultLaws.{Adds, quiet-adds, then-adds, notify-adds, signifiers-adds, or-true}
-use Rattle.slices.proofs.CompareLaws.{and-left, and-right}
 
 -- ---- the grace bit of the flags
 

@@ -1,11 +1,8 @@
 -- Texts whose note tokens are computed from what the text says: one table, one fact.
 use Prim.Native.Nat.{ℕ}
-use Prim.Native.String.{String}
-use mathlib.Core.Bool.{Bool, true, _&&_}
-use mathlib.Core.List.{List, [], _∷_, _++_, headD}
+use mathlib.Core.List.{List, [], _∷_, headD}
 use mathlib.Core.Option.{bind}
 use lib.Dec.{T}
-use Rattle.slices.specs.Ascii.{ascii}
 use Rattle.slices.specs.Compare.{beginsWith, sameBytes}
 use Rattle.slices.specs.Split.{join, split, pieces, indexOf}
 use Rattle.lines.specs.Lines.{keep, withoutCRs, kindOf}
@@ -23,9 +20,9 @@ use Rattle.pitch.specs.Pitch.{within, lowerCase, upperCase, lowerPitch, upperPi
 use Rattle.items.specs.Items.{isLetter, joins, into, runs, itemOf, itemsOf, more, first, nextItem}
 use Rattle.token.specs.Account.{digitsIn, firstDigits, hasValue, isNote, accountLength}
 use Rattle.token.specs.Token.{badLength, upToBlank, firstSub, isSilent, givenIn, marks, countOf, dotsOf, restOf, anyOf, graceBy, graceFrom, heard, passes}
-use Rattle.notation.specs.Search.{contains, trimStart}
+use Rattle.notation.specs.Bytes.{contains, trimStart}
 use Rattle.peers.specs.Peers.{onlySigns, isBare, leading, forbids, offerOf, peersFrom, allOffer, uniform}
-use Rattle.reading.specs.Computed.{textOf}
+use Rattle.reading.proofs.Texts.{Example, _yields_, agree}
 use Rattle.account.specs.Rows.{recordsFrom, recordsOf, pathsFrom, pathsOf, takenFrom, takenOf}
 use Rattle.account.specs.Account.{Item, kernColumns, inferredOf, itemsFrom, itemsOf as itemsOf-account, accountFrom, account}
 
@@ -38,45 +35,19 @@ unfoldable pub accounted : List ℕ → List ℕ
 unfolding bind headD beginsWith sameBytes join split pieces indexOf keep withoutCRs kindOf isNull isKern isStar isEmpty branchFrom advance headerFrom pathToken exchangesRight exchangesLeft followsJoin givesOf gives before width sourceOf source lookBack origin originIn trace kernsBefore headerPart part holds lowest withVoice giveVoices voiceRow stepRow recordOf each isOrdinary isBar identicalBars repairOf repairBy questions digits numberFrom numberOf exponentOf gcdIn writtenAt written counts durationOf decimal reciprocalLength added dotted within lowerCase upperCase lowerPitch upperPitch pitchOf alteredBy signs twosComplement isLetter joins into runs itemOf itemsOf more first nextItem digitsIn firstDigits hasValue isNote accountLength badLength upToBlank firstSub isSilent givenIn marks countOf dotsOf restOf anyOf graceBy graceFrom heard passes contains trimStart onlySigns isBare leading forbids offerOf peersFrom allOffer uniform recordsFrom recordsOf pathsFrom pathsOf takenFrom takenOf kernColumns inferredOf itemsFrom itemsOf-account accountFrom account
 accounted t = shown (account t)
 
--- a record of its tokens, TAB between
-abbrev recordText : List String → List ℕ
-recordText [] = []
-recordText (t ∷ []) = ascii t
-recordText (t ∷ u ∷ ts) = ascii t ++ (9 ∷ recordText (u ∷ ts))
-
-abbrev recordTexts : List (List String) → List (List ℕ)
-recordTexts [] = []
-recordTexts (r ∷ rs) = recordText r ∷ recordTexts rs
-
--- a text of records, each with LF, and its note tokens
-pub record Example : Type 0 where
-  pub records : List (List String)
-  pub items : List ℕ
-
-infix 20 _says_
-abbrev _says_ : List (List String) → List ℕ → Example
-rs says is = record { records = rs; items = is }
-
-abbrev holdsOf : Example → Bool
-holdsOf e = sameBytes (e .items) (accounted (textOf (recordTexts (e .records))))
-
-abbrev pub eachOf : List Example → Bool
-eachOf [] = true
-eachOf (e ∷ es) = holdsOf e && eachOf es
-
 unfoldable pub table : List Example
 table =
     -- a split and a join, a dot, a closing, a rest
-    ((("**kern" ∷ []) ∷ ("8cL" ∷ []) ∷ ("*^" ∷ []) ∷ ("8dJ" ∷ "8eL" ∷ []) ∷ ("*v" ∷ "*v" ∷ []) ∷ ("8f." ∷ []) ∷ ("=:|!|:" ∷ []) ∷ ("4r" ∷ []) ∷ []) says
+    ((("**kern" ∷ []) ∷ ("8cL" ∷ []) ∷ ("*^" ∷ []) ∷ ("8dJ" ∷ "8eL" ∷ []) ∷ ("*v" ∷ "*v" ∷ []) ∷ ("8f." ∷ []) ∷ ("=:|!|:" ∷ []) ∷ ("4r" ∷ []) ∷ []) yields
     (0 ∷ 0 ∷ 1 ∷ 2 ∷ 1 ∷ 1 ∷ 8 ∷ 0 ∷ 0 ∷ 1 ∷ 4 ∷ 1 ∷ 1 ∷ 8 ∷ 0 ∷ 1 ∷ 1 ∷ 4 ∷ 2 ∷ 1 ∷ 8 ∷ 0 ∷ 0 ∷ 1 ∷ 6 ∷ 1 ∷ 24 ∷ 128 ∷ 0 ∷ 0 ∷ 2 ∷ 8 ∷ 1 ∷ 1 ∷ 4 ∷ []))
     -- an exchange, a spine outside kern, an empty line, a comment
-    ∷ ((("**kern" ∷ "**kern" ∷ "**text" ∷ []) ∷ ("4c" ∷ "4e" ∷ "4a" ∷ []) ∷ ("!" ∷ []) ∷ ("*x" ∷ "*x" ∷ "*" ∷ []) ∷ ("" ∷ []) ∷ ("4g" ∷ "." ∷ "." ∷ []) ∷ []) says
+    ∷ ((("**kern" ∷ "**kern" ∷ "**text" ∷ []) ∷ ("4c" ∷ "4e" ∷ "4a" ∷ []) ∷ ("!" ∷ []) ∷ ("*x" ∷ "*x" ∷ "*" ∷ []) ∷ ("" ∷ []) ∷ ("4g" ∷ "." ∷ "." ∷ []) ∷ []) yields
     (0 ∷ 0 ∷ 1 ∷ 2 ∷ 1 ∷ 1 ∷ 4 ∷ 1 ∷ 0 ∷ 1 ∷ 2 ∷ 2 ∷ 1 ∷ 4 ∷ 1 ∷ 0 ∷ 1 ∷ 6 ∷ 1 ∷ 1 ∷ 4 ∷ []))
     -- a length inferred, barlines without a note between, a grace, a record behind the last spine
-    ∷ ((("**kern" ∷ "**kern" ∷ "**kern" ∷ []) ∷ ("=" ∷ "=" ∷ "=" ∷ []) ∷ ("12c" ∷ "12e" ∷ "g" ∷ []) ∷ ("=" ∷ "=" ∷ "=" ∷ []) ∷ ("=" ∷ "=" ∷ "=" ∷ []) ∷ ("8cq" ∷ "4e 4g" ∷ "." ∷ []) ∷ ("*-" ∷ "*-" ∷ "*-" ∷ []) ∷ ("4c" ∷ "4c" ∷ "4c" ∷ []) ∷ []) says
+    ∷ ((("**kern" ∷ "**kern" ∷ "**kern" ∷ []) ∷ ("=" ∷ "=" ∷ "=" ∷ []) ∷ ("12c" ∷ "12e" ∷ "g" ∷ []) ∷ ("=" ∷ "=" ∷ "=" ∷ []) ∷ ("=" ∷ "=" ∷ "=" ∷ []) ∷ ("8cq" ∷ "4e 4g" ∷ "." ∷ []) ∷ ("*-" ∷ "*-" ∷ "*-" ∷ []) ∷ ("4c" ∷ "4c" ∷ "4c" ∷ []) ∷ []) yields
     (0 ∷ 0 ∷ 1 ∷ 3 ∷ 1 ∷ 1 ∷ 12 ∷ 1 ∷ 0 ∷ 1 ∷ 3 ∷ 2 ∷ 1 ∷ 12 ∷ 2 ∷ 0 ∷ 1 ∷ 3 ∷ 3 ∷ 1 ∷ 12 ∷ 0 ∷ 0 ∷ 2 ∷ 6 ∷ 1 ∷ 0 ∷ 1 ∷ 1 ∷ 0 ∷ 2 ∷ 6 ∷ 2 ∷ 1 ∷ 4 ∷ []))
     ∷ []
 
-pub examples : T (eachOf table)
+pub examples : T (agree accounted table)
 unfolding table sameBytes accounted
 examples = tt

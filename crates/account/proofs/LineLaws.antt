@@ -6,6 +6,7 @@ use mathlib.Core.List.{List, [], _∷_, _++_, map}
 use mathlib.Core.Path.{_≡_, refl, sym, ap, subst, _∙_}
 use lib.Dec.{ltb}
 use lib.ListN.{length, getD}
+use Rattle.slices.proofs.TestLaws.{clash}
 use Rattle.lines.specs.Lines.{withoutCRs, kindOf}
 use Rattle.lines.specs.Tokens.{tokensOf, isKern, isExclusive}
 use Rattle.lines.specs.declared.Kind.{Kind}
@@ -54,9 +55,9 @@ other-line begun k offset bytes st = go (kindOf bytes)
     go Empty i = (quiet st, refl, quiet-adds st)
     go Reference i = (readReference k offset bytes st, refl, reference-adds k offset bytes st)
     go Comment i = (quiet st, refl, quiet-adds st)
-    go Star i = absurd (let z : _≡_ {A = ℕ} 0 1 = cc in omega arith)
-    go Bar i = absurd (let z : _≡_ {A = ℕ} 0 1 = cc in omega arith)
-    go Data i = absurd (let z : _≡_ {A = ℕ} 0 1 = cc in omega arith)
+    go Star i = clash cc
+    go Bar i = clash cc
+    go Data i = clash cc
 
 pub record-line : (begun : Bool) (k offset : ℕ) (bytes : List ℕ) (st : State) → isRecord (kindOf bytes) ≡ true
     → readLine begun k offset bytes st ≡ onRecord begun k offset bytes st
@@ -161,7 +162,7 @@ module _ (h : List Bool) (recs : ℕ → Rec) where
             (sym (record-line true (k + 1) offset (withoutCRs l) st i) ∙ e))
         go false i =
             let o : (r : Result) × (readLine true (k + 1) offset (withoutCRs l) st ≡ goes r) × Adds st r [] = other-line true (k + 1) offset (withoutCRs l) st i in
-            absurd (let z : _≡_ {A = ℕ} 0 1 = cc in omega arith)
+            clash cc
 
 -- ---- the header
 
@@ -225,7 +226,7 @@ module _ (x : Numbered) (rs : List Numbered) (offset : ℕ) (st : State) where
   header-last r = go (not (each isExclusive (tokensOf (x .bytes)))) (ltb 256 (length (tokensOf (x .bytes)))) (not (anyKern kernsOf))
     where
       go : (a b c : Bool) → cond a (refused 3 (x .number) 0) (cond b (refused 4 (x .number) (length (tokensOf (x .bytes)))) (cond c (refused 5 (x .number) 0) (goes headedResult))) ≡ ends r → ⊥
-      go true b c e = let z : _≡_ {A = ℕ} 0 1 = cc in omega arith
-      go false true c e = let z : _≡_ {A = ℕ} 0 1 = cc in omega arith
-      go false false true e = let z : _≡_ {A = ℕ} 0 1 = cc in omega arith
-      go false false false e = let z : _≡_ {A = ℕ} 0 1 = cc in omega arith
+      go true b c e = clash cc
+      go false true c e = clash cc
+      go false false true e = clash cc
+      go false false false e = clash cc

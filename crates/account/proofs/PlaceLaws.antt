@@ -6,6 +6,7 @@ use mathlib.Core.List.{List, [], _∷_, _++_}
 use mathlib.Core.Option.{some}
 use mathlib.Core.Path.{_≡_, refl, sym, ap, _∙_}
 use lib.ListN.{length}
+use Rattle.slices.proofs.TestLaws.{clash}
 use Rattle.lines.specs.Lines.{withoutCRs, kindOf}
 use Rattle.paths.specs.Record.{Rec}
 use Rattle.sheet.specs.Record.{Record}
@@ -55,14 +56,14 @@ module _ (h : List Bool) (recs : ℕ → Rec) (tail : List (List ℕ)) (there : 
       go : (s : Step) → readLine true (k + 1) offset (withoutCRs l) st ≡ s
           → whereGoes s (λ (s : State). placeAfter true (k + 1) (offset + length l + 1) s ls) ≡ some (record { begun = b; state = there })
           → PlacedAt h recs (n + length (recordsFrom k (l ∷ ls))) there (k + length (l ∷ ls)) tail (readLines true k offset before st (l ∷ (ls ++ tail)))
-      go (refused q m f) i e = absurd (let z : _≡_ {A = ℕ} 0 1 = cc in omega arith)
+      go (refused q m f) i e = clash cc
       go (goes r) i e =
           let p : Passed h recs n k st l (ls ++ tail) r = passed h recs n k offset st l (ls ++ tail) r here i in
           let y : k + 1 + length ls ≡ k + length (l ∷ ls) = omega arith in
           let reads : readLines true k offset before st (l ∷ (ls ++ tail)) ≡ readLines true (k + 1) (offset + length l + 1) (before ++ r .records) (r .state) (ls ++ tail) =
           read-line true k offset before st l (ls ++ tail) ∙ ap (carryOn true (k + 1) (offset + length l + 1) before (ls ++ tail)) i in
           rw (reads, ← counted-length n k l ls, ← y) (later (counted l n) (before ++ r .records) (r .state) b (p .stands) e)
-      go (ends r) i e = absurd (let z : _≡_ {A = ℕ} 0 1 = cc in omega arith)
+      go (ends r) i e = clash cc
 
   place-true : (k offset : ℕ) (ls : List (List ℕ)) → PlacedTrue k offset ls
   unfolding placeAfter recordsFrom
@@ -93,14 +94,14 @@ module _ (tail : List (List ℕ)) (there : State) where
           → whereGoes s (λ (s : State). placeAfter true (k + 1) (offset + length l + 1) s ls) ≡ some (record { begun = true; state = there })
           → PlacedAt (headerIn (x ∷ recordsFrom (k + 1) (ls ++ tail))) (pathsIn (x ∷ recordsFrom (k + 1) (ls ++ tail))) (length (recordsFrom (k + 1) ls)) there (k + length (l ∷ ls)) tail
           (carryOn true (k + 1) (offset + length l + 1) before (ls ++ tail) s)
-      header t (refused q m f) i e = absurd (let z : _≡_ {A = ℕ} 0 1 = cc in omega arith)
+      header t (refused q m f) i e = clash cc
       header t (goes r) i e =
           let g : Begins x (recordsFrom (k + 1) (ls ++ tail)) st r = begins x (recordsFrom (k + 1) (ls ++ tail)) offset st r i in
           let z : 0 + length (recordsFrom (k + 1) ls) ≡ length (recordsFrom (k + 1) ls) = omega arith in
           rw (← z, ← y)
           (place-true (headerIn (x ∷ recordsFrom (k + 1) (ls ++ tail))) (pathsIn (x ∷ recordsFrom (k + 1) (ls ++ tail))) tail there (k + 1) (offset + length l + 1) ls
           0 (before ++ r .records) (r .state) true (g .stands) e)
-      header t (ends r) i e = absurd (let z : _≡_ {A = ℕ} 0 1 = cc in omega arith)
+      header t (ends r) i e = clash cc
 
       by-kind : (t : Bool) → isRecord (kindOf (withoutCRs l)) ≡ t
           → whereGoes (readLine false (k + 1) offset (withoutCRs l) st) (λ (s : State). placeAfter (isRecord (kindOf (withoutCRs l))) (k + 1) (offset + length l + 1) s ls)
@@ -118,5 +119,5 @@ module _ (tail : List (List ℕ)) (there : State) where
   unfolding placeAfter
   place-start k offset [] = λ before st e.
       let never : false ≡ true = ap (λ (p : Place). p .begun) (same-place e) in
-      absurd (let z : _≡_ {A = ℕ} 0 1 = cc in omega arith)
+      clash cc
   place-start k offset (l ∷ ls) = start-one k offset l ls (place-start (k + 1) (offset + length l + 1) ls)

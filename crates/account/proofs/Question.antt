@@ -9,6 +9,7 @@ use mathlib.Core.Path.{_≡_, refl, sym, ap, subst, _∙_}
 use lib.Dec.{eqb, leb}
 use lib.ListN.{length}
 use borrow.Author.Tests.{le-leb, eq-eqb, leb-true, eqb-true}
+use Rattle.slices.proofs.TestLaws.{clash}
 use Rattle.lines.specs.Lines.{linesOf, withoutCRs, kindOf}
 use Rattle.lines.specs.Tokens.{tokensOf}
 use Rattle.lines.specs.declared.Kind.the-variants.{Star}
@@ -44,7 +45,7 @@ finish-passes begun before st m q = go begun (eqb (st .notes) 0) _ _ _
   where
     go : (b few : Bool) (a c : ℕ) (rs : List Record) → cond b (cond few (refusal 12 0 0) (accepted a c rs)) (refusal 11 0 0) ≡ refusal 8 m q → ⊥
     go true true a c rs e = let z : _≡_ {A = ℕ} 12 8 = cc in omega arith
-    go true false a c rs e = let z : _≡_ {A = ℕ} 0 1 = cc in omega arith
+    go true false a c rs e = clash cc
     go false few a c rs e = let z : _≡_ {A = ℕ} 11 8 = cc in omega arith
 
 -- lines refused on line m with question 8: those before it are passed, and it is a star record whose branch of part q finds no voice
@@ -71,7 +72,7 @@ stopped-line k offset l ls later begun before st m q e =
 
     go : (s : Step) → readLine begun (k + 1) offset (withoutCRs l) st ≡ s → Stops (k + 1) (Voiceless begun (withoutCRs l) st) s
         → carryOn (begun || isRecord (kindOf (withoutCRs l))) (k + 1) (offset + length l + 1) before ls s ≡ refusal 8 m q → StoppedAt begun k offset st (l ∷ ls) m q
-    go (refused n i f) r (a, b) e =
+    go (refused n i f) r (a, (x, b)) e =
         let eight : n ≡ 8 = cc in
         let line : i ≡ m = cc in
         let figure : f ≡ q = cc in
@@ -200,7 +201,7 @@ module _ (text : List ℕ) (before : List (List ℕ)) (here : List ℕ) (rest : 
     where
       go : (o : Outcome) → reading o ≡ refusedRow 8 q → StarIs (length before + 1) o (readLine true (length before + 1) (placed .offset) (withoutCRs here) (there .state))
           → (q : ℕ) × (readText text ≡ refusal 8 (length before + 1) q)
-      go (next row) r i = absurd (let z : _≡_ {A = ℕ} 0 1 = cc in omega arith)
+      go (next row) r i = clash cc
       go (voiceless p) r i = (p, answers ∙ ap (carryOn true (length before + 1) (placed .offset + length here + 1) (placed .before) rest) i)
       go (wide w) r i = absurd (let z : _≡_ {A = ℕ} 9 8 = cc in omega arith)
 

@@ -6,6 +6,7 @@ use mathlib.Core.List.{List, [], _∷_, _++_, map}
 use mathlib.Core.Path.{_≡_, refl, sym, ap, subst, _∙_}
 use lib.Dec.{eqb}
 use lib.ListN.{length, length-map}
+use Rattle.slices.proofs.TestLaws.{clash}
 use Rattle.lines.specs.Lines.{kindOf}
 use Rattle.lines.specs.Tokens.{tokensOf}
 use Rattle.lines.specs.declared.Kind.{Kind}
@@ -126,19 +127,19 @@ module _ (h : List Bool) (recs : ℕ → Rec) where
   never-ends : (kind : Kind) (n k : ℕ) (st : State) → At h recs n (st .row) → length (st .parts) ≡ length (freshParts 0 h) → (us : List Token) (r : Result)
       → byKind kind k us st ≡ ends r → ⊥
   unfolding readStar
-  never-ends Empty n k st at size us r e = let z : _≡_ {A = ℕ} 0 1 = cc in omega arith
-  never-ends Reference n k st at size us r e = let z : _≡_ {A = ℕ} 0 1 = cc in omega arith
-  never-ends Comment n k st at size us r e = let z : _≡_ {A = ℕ} 0 1 = cc in omega arith
+  never-ends Empty n k st at size us r e = clash cc
+  never-ends Reference n k st at size us r e = clash cc
+  never-ends Comment n k st at size us r e = clash cc
   never-ends Star n k st at size us r e = go (stepRow (st .row) (map (λ (t : Token). pathToken (t .bytes)) us)) e
     where
       c : Result
       c = readColumns (map (λ (t : Token). pathToken (t .bytes)) us) k 0 (st .row) us st
 
       go : (o : Outcome) → toRow k c o ≡ ends r → ⊥
-      go (next row) e = let z : _≡_ {A = ℕ} 0 1 = cc in omega arith
-      go (voiceless p) e = let z : _≡_ {A = ℕ} 0 1 = cc in omega arith
-      go (wide w) e = let z : _≡_ {A = ℕ} 0 1 = cc in omega arith
-  never-ends Bar n k st at size us r e = let z : _≡_ {A = ℕ} 0 1 = cc in omega arith
+      go (next row) e = clash cc
+      go (voiceless p) e = clash cc
+      go (wide w) e = clash cc
+  never-ends Bar n k st at size us r e = clash cc
   never-ends Data n k st at size us r e =
       subst (λ (s : Step). StepAdds st s (itemsBy h recs Data n (st .bars) (takenOn Data k (map (λ (t : Token). t .bytes) us) (st .row)))) e (data-step n k st at size us)
 
@@ -165,8 +166,8 @@ module _ (h : List Bool) (recs : ℕ → Rec) where
           noted-is = a .noted ∙ or-false (anyNoted (st .parts));
           size-is = a .size;
         })
-        go (voiceless p) o f = absurd (let z : _≡_ {A = ℕ} 0 1 = cc in omega arith)
-        go (wide w) o f = absurd (let z : _≡_ {A = ℕ} 0 1 = cc in omega arith)
+        go (voiceless p) o f = clash cc
+        go (wide w) o f = clash cc
 
     bar-took : (ts : List (List ℕ)) (us : List Token) → goes (readBar us st) ≡ goes r → TookFrom Bar n k ts st r
     bar-took ts us g = subst (TookFrom Bar n k ts st) result (record {
@@ -200,9 +201,9 @@ module _ (h : List Bool) (recs : ℕ → Rec) where
 
     kind-took : (kind : Kind) → isRecord kind ≡ true → At h recs n (st .row) → length (st .parts) ≡ length (freshParts 0 h)
         → (ts : List (List ℕ)) (us : List Token) → map (λ (t : Token). t .bytes) us ≡ ts → byKind kind k us st ≡ goes r → TookFrom kind n k ts st r
-    kind-took Empty i at size ts us e g = absurd (let z : _≡_ {A = ℕ} 0 1 = cc in omega arith)
-    kind-took Reference i at size ts us e g = absurd (let z : _≡_ {A = ℕ} 0 1 = cc in omega arith)
-    kind-took Comment i at size ts us e g = absurd (let z : _≡_ {A = ℕ} 0 1 = cc in omega arith)
+    kind-took Empty i at size ts us e g = clash cc
+    kind-took Reference i at size ts us e g = clash cc
+    kind-took Comment i at size ts us e g = clash cc
     kind-took Star i at size ts us e g = star-took ts us e g
     kind-took Bar i at size ts us e g = bar-took ts us g
     kind-took Data i at size ts us e g = data-took at size ts us e g
@@ -234,16 +235,16 @@ pub behind-goes : (q : Result) (f : State → Step) (r : Result) → behind q f 
 behind-goes q f r = go (f (q .state))
   where
     go : (s : Step) → behind q (λ x. s) ≡ goes r → (u : Result) × (s ≡ goes u) × (_≡_ {A = Result} (record { state = u .state; records = q .records ++ u .records }) r)
-    go (refused n l g) e = absurd (let z : _≡_ {A = ℕ} 0 1 = cc in omega arith)
+    go (refused n l g) e = clash cc
     go (goes u) e = (u, refl, cc)
-    go (ends u) e = absurd (let z : _≡_ {A = ℕ} 0 1 = cc in omega arith)
+    go (ends u) e = clash cc
 
 behind-ends : (q : Result) (f : State → Step) (r : Result) → behind q f ≡ ends r → (u : Result) × (f (q .state) ≡ ends u)
 behind-ends q f r = go (f (q .state))
   where
     go : (s : Step) → behind q (λ x. s) ≡ ends r → (u : Result) × (s ≡ ends u)
-    go (refused n l g) e = absurd (let z : _≡_ {A = ℕ} 0 1 = cc in omega arith)
-    go (goes u) e = absurd (let z : _≡_ {A = ℕ} 0 1 = cc in omega arith)
+    go (refused n l g) e = clash cc
+    go (goes u) e = clash cc
     go (ends u) e = (u, refl)
 
 -- ---- a record that is taken
@@ -322,12 +323,12 @@ module _ (h : List Bool) (recs : ℕ → Rec) where
       where
         even : 0 < length (st .row) → (o : Repaired) → repairedOf (length (st .row)) (tokensOf (x .bytes)) ≡ o
             → byRepair o (x .number) offset (x .bytes) (placed offset (repaired (length (st .row)) (tokensOf (x .bytes)))) st ≡ goes r → Went n st x rs r
-        even l (Uneven c) q g = absurd (let z : _≡_ {A = ℕ} 0 1 = cc in omega arith)
-        even l Mixed q g = absurd (let z : _≡_ {A = ℕ} 0 1 = cc in omega arith)
+        even l (Uneven c) q g = clash cc
+        even l Mixed q g = clash cc
         even l (Even p) q g = went-even offset l q g
 
         by-row : (row : List Spine) → st .row ≡ row → onRow row (x .number) offset (x .bytes) st ≡ goes r → Went n st x rs r
-        by-row [] e g = absurd (let z : _≡_ {A = ℕ} 0 1 = cc in omega arith)
+        by-row [] e g = clash cc
         by-row (s ∷ row) e g =
             even (omega (arith, ap length e)) (repairedOf (length (st .row)) (tokensOf (x .bytes))) refl
             (subst (λ (w : ℕ). byRepair (repairedOf w (tokensOf (x .bytes))) (x .number) offset (x .bytes) (placed offset (repaired w (tokensOf (x .bytes)))) st ≡ goes r) (sym (ap length e)) g)
@@ -341,8 +342,8 @@ module _ (h : List Bool) (recs : ℕ → Rec) where
         result u e = cc
 
         even : (o : Repaired) (us : List Token) → byRepair o (x .number) offset (x .bytes) us st ≡ ends r → ⊥
-        even (Uneven c) us g = let z : _≡_ {A = ℕ} 0 1 = cc in omega arith
-        even Mixed us g = let z : _≡_ {A = ℕ} 0 1 = cc in omega arith
+        even (Uneven c) us g = clash cc
+        even Mixed us g = clash cc
         even (Even p) us g =
             let q : Result = noticeRepair p (x .number) offset (x .bytes) st in
             let a : Adds st q [] = repair-adds p (x .number) offset (x .bytes) st in

@@ -1,5 +1,5 @@
--- Where a line is refused: it has its own number, and question 8 stops star records only.
-use Prim.Native.Nat.{ℕ, suc, _+_, _<_}
+-- Where a line is refused: by one of the questions 1 to 12, with its own number, and question 8 stops star records only.
+use Prim.Native.Nat.{ℕ, suc, _+_, _<_, _≤_}
 use native.Mathlib.Omega.{arith}
 use mathlib.Core.Bool.{Bool, true, false, cond, not}
 use mathlib.Core.List.{List, [], _∷_, _++_, map}
@@ -42,10 +42,14 @@ pub record Voiceless (begun : Bool) (bytes : List ℕ) (st : State) (f : ℕ) : 
   pub even : repairedOf (length (st .row)) (tokensOf bytes) ≡ Even repair
   pub no-voice : stepRow (st .row) (map pathToken (repaired (length (st .row)) (tokensOf bytes))) ≡ voiceless f
 
--- a step that is no refusal, or one on line k, with question 8 only where P says so
+-- a question of the reading
+abbrev pub Asked : ℕ → Type 0
+Asked n = (1 ≤ n) × (n ≤ 12)
+
+-- a step that is no refusal, or one by such a question on line k, with question 8 only where P says so
 module _ (k : ℕ) (P : ℕ → Type 0) where
   abbrev pub Stops : Step → Type 0
-  Stops (refused n m f) = (m ≡ k) × (n ≡ 8 → P f)
+  Stops (refused n m f) = (m ≡ k) × (Asked n × (n ≡ 8 → P f))
   Stops (goes r) = Unit {0}
   Stops (ends r) = Unit {0}
 
@@ -63,8 +67,8 @@ module _ (k : ℕ) (P : ℕ → Type 0) where
   then-stops (ends r) f e later = tt
 
   -- another question
-  other : (n f : ℕ) → (n ≡ 8 → ⊥) → Stops (refused n k f)
-  other n f d = (refl, λ e. absurd (d e))
+  other : (n f : ℕ) → Asked n → (n ≡ 8 → ⊥) → Stops (refused n k f)
+  other n f q d = (refl, (q, λ e. absurd (d e)))
 
   -- ---- data records
 
@@ -74,7 +78,7 @@ module _ (k : ℕ) (P : ℕ → Type 0) where
     where
       go : (b : Bool) (r : Result) → Stops (cond b (goes r) (refused 10 k 0))
       go true r = tt
-      go false r = other 10 0 (λ e. omega arith)
+      go false r = other 10 0 (omega arith, omega arith) (λ e. omega arith)
 
   outcome-stops : (o : Outcome) (p v j : ℕ) (t : Token) (st : State) → Stops (byOutcome o p v k j t st)
   outcome-stops Silent p v j t st = tt
@@ -114,9 +118,9 @@ module _ (k : ℕ) (P : ℕ → Type 0) where
   header-stops offset bytes st = go (not (each isExclusive (tokensOf bytes))) (ltb 256 (length (tokensOf bytes))) (not (anyKern (map isKern (tokensOf bytes)))) _
     where
       go : (a b c : Bool) (r : Result) → Stops (cond a (refused 3 k 0) (cond b (refused 4 k (length (tokensOf bytes))) (cond c (refused 5 k 0) (goes r))))
-      go true b c r = other 3 0 (λ e. omega arith)
-      go false true c r = other 4 (length (tokensOf bytes)) (λ e. omega arith)
-      go false false true r = other 5 0 (λ e. omega arith)
+      go true b c r = other 3 0 (omega arith, omega arith) (λ e. omega arith)
+      go false true c r = other 4 (length (tokensOf bytes)) (omega arith, omega arith) (λ e. omega arith)
+      go false false true r = other 5 0 (omega arith, omega arith) (λ e. omega arith)
       go false false false r = tt
 
 -- ---- a star record
@@ -130,13 +134,13 @@ star-stops k ts us st e =
   where
     go : (c : Result) (o : RowOutcome) → o ≡ stepRow (st .row) (map pathToken ts) → Stops k (λ f. stepRow (st .row) (map pathToken ts) ≡ voiceless f) (toRow k c o)
     go c (next row) e = tt
-    go c (voiceless p) e = (refl, λ x. sym e)
-    go c (wide n) e = (refl, λ x. absurd (omega arith))
+    go c (voiceless p) e = (refl, ((omega arith, omega arith), λ x. sym e))
+    go c (wide n) e = (refl, ((omega arith, omega arith), λ x. absurd (omega arith)))
 
 -- ---- any line
 
 stops-map : (k : ℕ) (P Q : ℕ → Type 0) (s : Step) → ((f : ℕ) → P f → Q f) → Stops k P s → Stops k Q s
-stops-map k P Q (refused n m f) i e = (e .0, λ x. i f (e .1 x))
+stops-map k P Q (refused n m f) i e = (e .0, (e .1 .0, λ x. i f (e .1 .1 x)))
 stops-map k P Q (goes r) i e = tt
 stops-map k P Q (ends r) i e = tt
 
@@ -180,8 +184,8 @@ module _ (k offset : ℕ) (bytes : List ℕ) (st : State) where
     where
       by-repair : 0 < length (st .row) → (o : Repaired) → repairedOf (length (st .row)) (tokensOf bytes) ≡ o
           → Stops k (Voiceless true bytes st) (byRepair o k offset bytes (placed offset (repaired (length (st .row)) (tokensOf bytes))) st)
-      by-repair l (Uneven c) e = (refl, λ x. absurd (omega arith))
-      by-repair l Mixed e = (refl, λ x. absurd (omega arith))
+      by-repair l (Uneven c) e = (refl, ((omega arith, omega arith), λ x. absurd (omega arith)))
+      by-repair l Mixed e = (refl, ((omega arith, omega arith), λ x. absurd (omega arith)))
       by-repair l (Even p) e = even-stops p l e (kindOf bytes) refl
 
       by-row : (row : List Spine) → st .row ≡ row → Stops k (Voiceless true bytes st) (onRow row k offset bytes st)

@@ -10,6 +10,7 @@ use lib.ListN.{length, getD}
 use borrow.Author.Tests.{eq-eqb}
 use Rattle.slices.specs.Ascii.{ascii}
 use Rattle.slices.specs.Compare.{beginsWith, sameBytes}
+use Rattle.slices.proofs.TestLaws.{clash}
 use Rattle.lines.specs.Lines.{kindOf}
 use Rattle.lines.specs.Tokens.{tokensOf, isStar}
 use Rattle.lines.specs.declared.Kind.{Kind}
@@ -110,10 +111,10 @@ module _ (h : List Bool) (recs : ℕ → Rec) where
 
 header-bound : (h : List Bool) (q k : ℕ) → getD h k false ≡ true → kernsBefore h k < length (freshParts q h)
 unfolding kernsBefore freshParts
-header-bound [] q k e = absurd (let z : _≡_ {A = ℕ} 0 1 = cc in omega arith)
+header-bound [] q k e = clash cc
 header-bound (true ∷ h) q zero e = omega arith
 header-bound (true ∷ h) q (suc k) e = omega (arith, header-bound h (suc q) k e)
-header-bound (false ∷ h) q zero e = absurd (let z : _≡_ {A = ℕ} 0 1 = cc in omega arith)
+header-bound (false ∷ h) q zero e = clash cc
 header-bound (false ∷ h) q (suc k) e = header-bound h q k e
 
 -- a part is one of the header's
@@ -123,10 +124,10 @@ part-bound h recs n j p = go (trace recs n j)
   where
     kern : (k : ℕ) (b : Bool) → getD h k false ≡ b → cond b (some (kernsBefore h k)) none ≡ some p → p < length (freshParts 0 h)
     kern k true e f = let z : kernsBefore h k ≡ p = cc in omega (arith, header-bound h 0 k e)
-    kern k false e f = absurd (let z : _≡_ {A = ℕ} 0 1 = cc in omega arith)
+    kern k false e f = clash cc
 
     go : (o : Option ℕ) → bind o (headerPart h) ≡ some p → p < length (freshParts 0 h)
-    go none e = absurd (let z : _≡_ {A = ℕ} 0 1 = cc in omega arith)
+    go none e = clash cc
     go (some k) e = kern k (getD h k false) refl e
 
 module _ (partAt-text : ℕ → Option ℕ) (m : ℕ) (bound : (j p : ℕ) → partAt-text j ≡ some p → p < m) where

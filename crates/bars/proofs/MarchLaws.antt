@@ -6,6 +6,7 @@ use native.Mathlib.Omega.{arith}
 use mathlib.Core.List.{List, [], _∷_, _++_, map, append-assoc, append-nil}
 use lib.ListN.{length, take, drop, set, getD, length-append, length-drop, drop-of-length-le}
 use lib.Seq.{take-all, drop-cons, take-suc-set, drop-set-lt, length-take-le}
+use Rattle.state.proofs.RowLaws.{put}
 use Rattle.sheet.specs.Record.{Record}
 use Rattle.reading.specs.State.{Part, freshPart}
 use Rattle.state.specs.Parts.{partOf, partsOf}
@@ -38,14 +39,10 @@ march-first l = record { within = omega arith; long = l; here = refl }
 abbrev pub lent : ℕ → ℕ → List ℕ → List ℕ
 lent at k s = take k (drop at s)
 
--- what the loan leaves
-abbrev pub back : ℕ → ℕ → List ℕ → List ℕ → List ℕ
-back at k q s = take at s ++ (q ++ drop k (drop at s))
-
 lent-long : (p at : ℕ) (s : List ℕ) → length s ≡ 8960 → at ≡ p * 35 → p < 256 → length (lent at 35 s) ≡ 35
 lent-long p at s l e h = length-take-le 35 (drop at s) (omega (arith, length-drop at s))
 
-back-long : (p at : ℕ) (q s : List ℕ) → length s ≡ 8960 → at ≡ p * 35 → p < 256 → length q ≡ 35 → length (back at 35 q s) ≡ 8960
+back-long : (p at : ℕ) (q s : List ℕ) → length s ≡ 8960 → at ≡ p * 35 → p < 256 → length q ≡ 35 → length (put 35 at q s) ≡ 8960
 back-long p at q s l e h m =
     length-append (take at s) (q ++ drop 35 (drop at s))
     ∙ omega (arith, length-append q (drop 35 (drop at s)), length-drop 35 (drop at s), length-drop at s, length-take-le at s (omega arith))
@@ -53,21 +50,21 @@ back-long p at q s l e h m =
 -- part p comes back as f of it
 back-parts : (f : Part → Part) (n p at : ℕ) (q s : List ℕ) → n ≤ 256 → length s ≡ 8960 → p < n → at ≡ p * 35 → length q ≡ 35
     → partOf q ≡ f (partOf (lent at 35 s))
-    → partsOf n (back at 35 q s) ≡ set (partsOf n s) p (f (getD (partsOf n s) p (freshPart 0)))
+    → partsOf n (put 35 at q s) ≡ set (partsOf n s) p (f (getD (partsOf n s) p (freshPart 0)))
 back-parts f n p at q s few l lt e m is =
     part-back n p at q s e lt (omega arith) m
     ∙ ap (set (partsOf n s) p) (is ∙ ap f (sym (part-at n p at (freshPart 0) s e lt)))
 
 pub march-turn : {f : Part → Part} {n p : ℕ} {old new : List ℕ} (at k : ℕ) (q : List ℕ) → Marching f n old new p → n ≤ 256 → p < n → at ≡ p * 35 → k ≡ 35
-    → length q ≡ length (lent at k new) → partOf q ≡ f (partOf (lent at k new)) → Marching f n old (back at k q new) (p + 1)
+    → length q ≡ length (lent at k new) → partOf q ≡ f (partOf (lent at k new)) → Marching f n old (put k at q new) (p + 1)
 march-turn {f} {n} {p} {old} {new} at k q i few lt e z m is =
     let t : length (lent at k new) ≡ 35 = ap (λ (j : ℕ). length (lent at j new)) z ∙ lent-long p at new (i .long) e (omega arith) in
     let x : partOf q ≡ f (partOf (lent at 35 new)) = is ∙ ap (λ (j : ℕ). f (partOf (lent at j new))) z in
     record {
       within = omega arith;
-      long = ap (λ (j : ℕ). length (back at j q new)) z ∙ back-long p at q new (i .long) e (omega arith) (m ∙ t);
+      long = ap (λ (j : ℕ). length (put j at q new)) z ∙ back-long p at q new (i .long) e (omega arith) (m ∙ t);
       here =
-          ap (λ (j : ℕ). onward f (p + 1) (partsOf n (back at j q new))) z
+          ap (λ (j : ℕ). onward f (p + 1) (partsOf n (put j at q new))) z
           ∙ ap (onward f (p + 1)) (back-parts f n p at q new few (i .long) lt e (m ∙ t) x)
           ∙ ap (λ (j : ℕ). onward f j (set (partsOf n new) p (f (getD (partsOf n new) p (freshPart 0))))) (add-one p)
           ∙ onward-turn f p (freshPart 0) (partsOf n new) (omega (arith, parts-length n new))
@@ -93,22 +90,22 @@ pub laying-turn : {f : Part → Part} {g : Part → Record} {n p : ℕ} {old new
     → Marching f n old new p → Laying g n old new out₀ out at₀ at p → n ≤ 256 → p < n → a ≡ p * 35 → k ≡ 35
     → length q ≡ length (lent a k new) → partOf q ≡ f (partOf (lent a k new))
     → out' ≡ laid out at (g (partOf (lent a k new)) ∷ []) → at' ≡ behind at (g (partOf (lent a k new)) ∷ [])
-    → Laying g n old (back a k q new) out₀ out' at₀ at' (p + 1)
+    → Laying g n old (put k a q new) out₀ out' at₀ at' (p + 1)
 laying-turn {f} {g} {n} {p} {old} {new} {out₀} {out} {out'} {at₀} {at} {at'} a k q i j few lt e z m is o b =
     let t : length (lent a k new) ≡ 35 = ap (λ (h : ℕ). length (lent a h new)) z ∙ lent-long p a new (i .long) e (omega arith) in
     let x : partOf q ≡ f (partOf (lent a 35 new)) = is ∙ ap (λ (h : ℕ). f (partOf (lent a h new))) z in
     let y = g (partOf (lent a k new)) in
     let ps = partsOf n new in
     let same : y ≡ g (getD ps p (freshPart 0)) = ap (λ (h : ℕ). g (partOf (lent a h new))) z ∙ ap g (sym (part-at n p a (freshPart 0) new e lt)) in
-    let rest : drop (p + 1) (partsOf n (back a k q new)) ≡ drop (suc p) ps
-    = ap (λ (h : ℕ). drop (p + 1) (partsOf n (back a h q new))) z
+    let rest : drop (p + 1) (partsOf n (put k a q new)) ≡ drop (suc p) ps
+    = ap (λ (h : ℕ). drop (p + 1) (partsOf n (put h a q new))) z
     ∙ ap (drop (p + 1)) (back-parts f n p a q new few (i .long) lt e (m ∙ t) x)
     ∙ ap (λ (h : ℕ). drop h (set ps p (f (getD ps p (freshPart 0))))) (add-one p)
     ∙ drop-set-lt (suc p) ps p (f (getD ps p (freshPart 0))) (omega arith) in
-    let all : y ∷ map g (drop (p + 1) (partsOf n (back a k q new))) ≡ map g (drop p ps)
+    let all : y ∷ map g (drop (p + 1) (partsOf n (put k a q new))) ≡ map g (drop p ps)
     = ap₂ (λ (u : Record) (v : List Part). u ∷ map g v) same rest
     ∙ ap (map g) (sym (drop-cons ps p (freshPart 0) (omega (arith, parts-length n new)))) in
-    let tail = map g (drop (p + 1) (partsOf n (back a k q new))) in
+    let tail = map g (drop (p + 1) (partsOf n (put k a q new))) in
     record {
       lay =
           ap₂ (λ (u : List ℕ) (v : ℕ). laid u v tail) o b

@@ -9,6 +9,9 @@ use lib.ListN.{length, take, drop, getD, length-drop, drop-of-length-le}
 use lib.Seq.{length-take-le}
 use Rattle.slices.specs.Split.{pieces, pieceAt}
 use Rattle.slices.proofs.SplitLaws.{no-piece}
+use Rattle.slices.proofs.TestLaws.{clash}
+use Rattle.state.specs.Counts.{Same}
+use Rattle.state.proofs.CountLaws.{same, same-same}
 use Rattle.lines.specs.Tokens.{tokensOf}
 use Rattle.lines.proofs.PieceLaws.{Piece}
 use Rattle.paths.specs.Row.{Spine}
@@ -25,33 +28,32 @@ use Rattle.state.specs.Lay.{laid, behind}
 use Rattle.state.specs.View.{Landed, stateOf, stopped, going, ending, landed, told}
 use Rattle.state.specs.Ready.{Ready}
 use Rattle.state.proofs.ViewLaws.{landed-behind}
-use Rattle.notes.specs.Spot.{Same, Kept}
+use Rattle.notes.specs.Spot.{Kept}
 use Rattle.data.specs.Column.{columnStep, rest}
-use Rattle.notes.proofs.NoticeLaws.{same, same-same}
 use Rattle.notes.proofs.TokenLaws.{quiet-step, kept-same}
 use Rattle.reading.proofs.StateLaws.{placed-bytes}
 
 -- ---- a step and what comes after it, by what the code says of the step
 then-goes : (s : Step) (g : State → Step) (out new : List ℕ) (at place : ℕ) (st : State) → going st place new ≡ landed s out at
     → landed (notes.andThen s g) out at ≡ landed (g st) new place
-then-goes (refused n l f) g out new at place st e = let z : _≡_ {A = ℕ} 0 1 = cc in absurd (omega arith)
+then-goes (refused n l f) g out new at place st e = clash cc
 then-goes (goes r) g out new at place st e =
     let p : st ≡ r .state = cc in
     let q : place ≡ behind at (r .records) = cc in
     let o : new ≡ laid out at (r .records) = cc in
     landed-behind r g out at ∙ sym (rw (p, q, o))
-then-goes (ends r) g out new at place st e = let z : _≡_ {A = ℕ} 0 1 = cc in absurd (omega arith)
+then-goes (ends r) g out new at place st e = clash cc
 
 then-stops : (s : Step) (g : State → Step) (out : List ℕ) (at n l f : ℕ) → stopped n l f ≡ landed s out at
     → landed (notes.andThen s g) out at ≡ stopped n l f
 then-stops (refused m k h) g out at n l f e = sym e
-then-stops (goes r) g out at n l f e = let z : _≡_ {A = ℕ} 0 1 = cc in absurd (omega arith)
-then-stops (ends r) g out at n l f e = let z : _≡_ {A = ℕ} 0 1 = cc in absurd (omega arith)
+then-stops (goes r) g out at n l f e = clash cc
+then-stops (ends r) g out at n l f e = clash cc
 
 then-ends : (s : Step) (g : State → Step) (out new : List ℕ) (at place : ℕ) (st : State) → ending st place new ≡ landed s out at
     → landed (notes.andThen s g) out at ≡ ending st place new
-then-ends (refused n l f) g out new at place st e = let z : _≡_ {A = ℕ} 0 1 = cc in absurd (omega arith)
-then-ends (goes r) g out new at place st e = let z : _≡_ {A = ℕ} 0 1 = cc in absurd (omega arith)
+then-ends (refused n l f) g out new at place st e = clash cc
+then-ends (goes r) g out new at place st e = clash cc
 then-ends (ends r) g out new at place st e = sym e
 
 -- ---- what is left from column i on

@@ -5,6 +5,8 @@ use native.Mathlib.Omega.{arith}
 use mathlib.Core.List.{List}
 use lib.ListN.{length, getD}
 use Rattle.slices.specs.Split.{pieceAt}
+use Rattle.state.specs.Counts.{Same}
+use Rattle.state.proofs.CountLaws.{same, same-same}
 use Rattle.lines.specs.Lines.{pieceEnd}
 use Rattle.lines.proofs.PieceLaws.{piece-at}
 use Rattle.plain.specs.Plain.{PlainToken, ShapeAt}
@@ -19,10 +21,10 @@ use Rattle.notes.specs.declared.Spot.{Spot}
 use Rattle.data.specs.declared.Column.{Column}
 use Rattle.data.specs.declared.Stretch.{Stretch}
 use Rattle.data.specs.Column.{tokenIn, rest}
-use Rattle.notes.specs.Spot.{spotAt, Same, Sited}
-use Rattle.notes.specs.Plain.{Sung}
+use Rattle.notes.specs.Spot.{spotAt, Sited}
+use Rattle.notes.specs.Plain.{PlainWritten}
 use Rattle.data.specs.Stretch.{AtOnce, countsAt, withStretch, Stretched}
-use Rattle.notes.proofs.NoticeLaws.{same, same-same, inferred-no}
+use Rattle.notes.proofs.NoticeLaws.{inferred-no}
 use Rattle.notes.proofs.TokenLaws.{plain-step, note-added}
 use Rattle.data.proofs.ShapeLaws.{null-end, note-end, null-column, note-column}
 use Rattle.data.proofs.ColumnLaws.{spotOf, column-outside, column-null, column-line, column-sited}
@@ -59,18 +61,18 @@ module _ {whole : Landed} {line row parts₀ out₀ : List ℕ} {t₀ : Tally} {
   spotHere = spotAt (getD row i 0) i k 0
 
   pub note-turn : {p : Plain} {s : Shape} {spot : Spot} {parts′ out′ : List ℕ} {place : ℕ} → ShapeAt line from s → s ≡ Note p → 8 ≤ getD row i 0
-      → AtOnce (getD row i 0) n (p .odd) (t₀ .notices)
-      → spot ≡ spotHere → Sung (pieceAt line from (p .end - from)) p spot t₀ at parts out parts′ out′ place
+      → AtOnce (getD row i 0) n (p .unknown) (t₀ .notices)
+      → spot ≡ spotHere → PlainWritten (pieceAt line from (p .end - from)) p spot t₀ at parts out parts′ out′ place
       → length parts′ ≡ length parts → length out′ ≡ length out
       → Reading whole line row parts₀ out₀ t₀ k offset parts′ out′ (countsAt t₀ (n + 1) place) (p .end + 1) (i + 1)
   note-turn {p} {s} {spot} {parts′} {out′} {place} shape q kern once is by lp lo =
-      let sung : Sung (pieceAt line from (p .end - from)) p spotHere t₀ at parts out parts′ out′ place = subst (λ (x : Spot). Sung (pieceAt line from (p .end - from)) p x t₀ at parts out parts′ out′ place) is by in
+      let written : PlainWritten (pieceAt line from (p .end - from)) p spotHere t₀ at parts out parts′ out′ place = subst (λ (x : Spot). PlainWritten (pieceAt line from (p .end - from)) p x t₀ at parts out parts′ out′ place) is by in
       let z : p .end ≡ pieceEnd 9 line from = note-end line from s shape q in
       let c : Column = column (p .end) in
       let token : List ℕ = tokenIn line c .bytes in
       let plain : PlainToken token p = note-column line c s shape z q in
       let t : Tally = countsAt t₀ n at in
-      let added = note-added row parts parts′ token (p .note) (spotOf row c) {t = t} {u = t} {w = countsAt t₀ (n + 1) place} (once .few) (inferred-no token (spotOf row c) t out (plain .sure)) (sym (plain .letters)) (sung .sounds) refl refl (sung .lays) (sung .ends) refl in
+      let added = note-added row parts parts′ token (p .note) (spotOf row c) {t = t} {u = t} {w = countsAt t₀ (n + 1) place} (once .few) (inferred-no token (spotOf row c) t out (plain .sure)) (sym (plain .letters)) (written .sounds) refl refl (written .lays) (written .ends) refl in
       data-turn inv parts′ out′ (Goes (countsAt t₀ (n + 1) place)) h (piece-at low z)
       (column-line line row c (stateOf row parts t) out at kern (once .line) refl refl (plain-step row parts token _ (spotOf row c) t out plain (once .full) added))
       (record { active = refl; parts = refl; bars = refl }) refl lp lo

@@ -10,10 +10,10 @@ use Rattle.data.specs.declared.Stretch.{Stretch}
 use Rattle.data.specs.Column.{rest}
 
 -- a kern line's cell, a note that question 10 lets pass, and signifiers of which no notice is kept
-pub record AtOnce (cell notes : ℕ) (odd : Bool) (notices : ℕ) : Type 0 where
+pub record AtOnce (cell notes : ℕ) (unknown : Bool) (notices : ℕ) : Type 0 where
   pub line : cell % 8 ≤ 3
   pub few : notes < 100000
-  pub full : odd ≡ true → 1024 ≤ notices
+  pub full : unknown ≡ true → 1024 ≤ notices
 
 -- the counts with so many notes, and a place
 abbrev pub countsAt : Tally → ℕ → ℕ → Tally

@@ -93,8 +93,8 @@ struct Stretch {
 }
 
 // Whether a note of the usual shape is written at once: in a kern line, at most the 100,000th, and with no notice to be kept.
-fn at_once(cell: u16, notes: u32, odd: bool, notices: u32) -> bool
-    ensures { λ r. ⌜ (r ≡ true → AtOnce cell notes odd notices) ⌝ }
+fn at_once(cell: u16, notes: u32, unknown: bool, notices: u32) -> bool
+    ensures { λ r. ⌜ (r ≡ true → AtOnce cell notes unknown notices) ⌝ }
 {
     if 3 < cell % 8 {
         return false;
@@ -102,7 +102,7 @@ fn at_once(cell: u16, notes: u32, odd: bool, notices: u32) -> bool
     if 100000 <= notes {
         return false;
     }
-    if odd {
+    if unknown {
         return 1024 <= notices;
     }
     true
@@ -146,7 +146,7 @@ fn read_stretch(
                 i += 1;
             }
             Shape::Note(p) => {
-                if !at_once(cell, notes, p.odd, tally.notices) {
+                if !at_once(cell, notes, p.unknown, tally.notices) {
                     break;
                 }
                 let end = p.end;

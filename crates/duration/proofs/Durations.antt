@@ -6,11 +6,12 @@ use Prim.Native.Nat.{ℕ, _^_, _≤_, _<_}
 use native.Mathlib.Omega.{arith}
 use lib.ListN.{length}
 use Rattle.slices.specs.Compare.{sameBytes}
+use Rattle.slices.proofs.TestLaws.{clash}
 use Rattle.duration.specs.Duration.{digits, number, numberFrom, numberOf, written, durationOf}
 use Rattle.duration.specs.Reciprocal.{decimal}
 use Rattle.duration.specs.declared.Number.the-variants.{Is, Not}
 use Rattle.duration.specs.declared.Value.the-variants.{Missing, Plain}
-use Rattle.duration.proofs.Numbers.{clash, first-digit, each-digit, all-digits, number-decimal}
+use Rattle.duration.proofs.Numbers.{first-digit, each-digit, all-digits, number-decimal}
 use Rattle.duration.proofs.Kept.{Worth, Outcome, breve, longa, reciprocal, none, outcome}
 
 -- the rules of the definition

@@ -9,11 +9,12 @@ use lib.ListN.{length, getD}
 use borrow.Author.Tests.{le-leb, leb-true}
 use Rattle.slices.specs.Compare.{sameBytes}
 use Rattle.slices.proofs.CompareLaws.{same-is}
+use Rattle.slices.proofs.TestLaws.{clash, both, not-both}
 use Rattle.duration.specs.Duration.{digits, number, counts, written, writtenAt, exponentOf, durationOf}
 use Rattle.duration.specs.Reciprocal.{decimal}
 use Rattle.duration.specs.declared.Value.{Value}
 use Rattle.duration.specs.declared.Value.the-variants.{Missing, Plain, Tuplet}
-use Rattle.duration.proofs.Numbers.{clash, and-true, each-digit, all-digits, number-decimal}
+use Rattle.duration.proofs.Numbers.{each-digit, all-digits, number-decimal}
 
 -- "1 to 4 digits worth 1 to 255"
 pub record Worth (s : List ℕ) : Type 0 where
@@ -26,10 +27,10 @@ pub record Worth (s : List ℕ) : Type 0 where
 counts-worth : (s : List ℕ) → counts s ≡ true → Worth s
 unfolding counts
 counts-worth s e =
-    let d = and-true (digits s && leb 1 (length s) && leb (length s) 4 && leb 1 (number s)) (leb (number s) 255) e in
-    let c = and-true (digits s && leb 1 (length s) && leb (length s) 4) (leb 1 (number s)) (d .0) in
-    let b = and-true (digits s && leb 1 (length s)) (leb (length s) 4) (c .0) in
-    let a = and-true (digits s) (leb 1 (length s)) (b .0) in
+    let d = both (digits s && leb 1 (length s) && leb (length s) 4 && leb 1 (number s)) (leb (number s) 255) e in
+    let c = both (digits s && leb 1 (length s) && leb (length s) 4) (leb 1 (number s)) (d .0) in
+    let b = both (digits s && leb 1 (length s)) (leb (length s) 4) (c .0) in
+    let a = both (digits s) (leb 1 (length s)) (b .0) in
     record {
       each = each-digit s (a .0);
       some = leb-true _ _ (a .1);
@@ -50,9 +51,6 @@ pub data Outcome (s : List ℕ) (r : Value) : Type 0 where
   reciprocal : Worth s → r ≡ written (decimal s) → Outcome s r
   none : (s ≡ 48 ∷ [] → ⊥) → (s ≡ 48 ∷ 48 ∷ [] → ⊥) → (Worth s → ⊥) → r ≡ Missing → Outcome s r
 
-different : (t : Bool) → t ≡ true → t ≡ false → ⊥
-different t e f = clash cc
-
 same-self : (p s : List ℕ) → s ≡ p → sameBytes p p ≡ true → sameBytes p s ≡ true
 same-self p s e h = rw e h
 
@@ -66,7 +64,7 @@ outcome s = go (sameBytes (48 ∷ []) s) (sameBytes (48 ∷ 48 ∷ []) s) (count
     go false true c p q r = longa (same-is (48 ∷ 48 ∷ []) s q) refl
     go false false true p q r = reciprocal (counts-worth s r) (ap written (number-decimal s))
     go false false false p q r =
-        none (λ e. different _ (same-self _ s e refl) p) (λ e. different _ (same-self _ s e refl) q) (λ w. different _ (worth-counts s w) r) refl
+        none (λ e. not-both (same-self _ s e refl) p) (λ e. not-both (same-self _ s e refl) q) (λ w. not-both (worth-counts s w) r) refl
 
 -- a number writes a value
 written-by : (t : Bool) (v a b c : ℕ) → cond t (Plain v) (Tuplet a b c) ≡ Missing → ⊥

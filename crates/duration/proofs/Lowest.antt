@@ -8,11 +8,11 @@ use native.Mathlib.Nat.{eq-one-of-dvd-one}
 use native.Mathlib.Omega.{arith}
 use lib.Dec.{T, eqb, leb, ltb, leb→le, ltb→lt, eqb→eq}
 use Rattle.slices.specs.Finite.{below, both-left, both-right}
+use Rattle.slices.proofs.TestLaws.{clash}
 use Rattle.duration.specs.Duration.{gcdIn, gcdOf, exponentOf, written, writtenAt, durationOf}
 use Rattle.duration.specs.Reciprocal.{decimal}
 use Rattle.duration.specs.declared.Value.{Value}
 use Rattle.duration.specs.declared.Value.the-variants.{Missing, Plain, Tuplet}
-use Rattle.duration.proofs.Numbers.{clash}
 use Rattle.duration.proofs.Divisors.{gcd-greatest}
 use Rattle.duration.proofs.Kept.{Outcome, breve, longa, reciprocal, none, outcome}
 

@@ -10,14 +10,11 @@ use lib.Dec.{leb, lit<}
 use lib.ListN.{length, getD, drop, drop-of-length-le}
 use lib.Seq.{drop-cons}
 use borrow.Author.Tests.{le-leb, lt-leb, leb-true}
+use Rattle.slices.proofs.TestLaws.{clash, both}
 use Rattle.duration.specs.Duration.{digit, digits, numberFrom, number, numberOf}
 use Rattle.duration.specs.Reciprocal.{decimal}
 use Rattle.duration.specs.declared.Number.{Number}
 use Rattle.duration.specs.declared.Number.the-variants.{Is, Not}
-
--- equations that would make 0 and 1 the same, as of two different constructors, prove anything
-pub clash : {A : Type 0} → _≡_ {A = ℕ} 0 1 → A
-clash e = absurd (omega arith)
 
 -- what a text writes after n
 abbrev after : ℕ → List ℕ → Number
@@ -73,14 +70,10 @@ digit-range x true true e f g = (leb-true 48 x e, leb-true x 57 f)
 digit-range x true false e f g = clash cc
 digit-range x false u e f g = clash cc
 
-pub and-true : (t u : Bool) → (t && u) ≡ true → (t ≡ true) × (u ≡ true)
-and-true true u e = (refl, e)
-and-true false u e = clash cc
-
 pub first-digit : (x : ℕ) (s : List ℕ) → digits (x ∷ s) ≡ true → (48 ≤ x) × (x ≤ 57) × (digits s ≡ true)
 unfolding digits
 first-digit x s e =
-    let b = and-true (digit x) (digits s) e in
+    let b = both (digit x) (digits s) e in
     let r = digit-range x (leb 48 x) (leb x 57) refl refl (b .0) in
     (r .0, r .1, b .1)
 

@@ -8,12 +8,12 @@ use lib.Dec.{T, eqb, eqb→eq}
 use Rattle.slices.specs.Finite.{all, below}
 use Rattle.slices.specs.Compare.{sameBytes}
 use Rattle.slices.proofs.CompareLaws.{same-is}
+use Rattle.slices.proofs.TestLaws.{clash}
 use Rattle.duration.specs.Duration.{gcdIn, exponentOf, written, writtenAt, durationOf}
 use Rattle.duration.specs.Length.{Fraction, _over_, SameLength, valueLength, dotFactor, tupletFactor, noteLength}
 use Rattle.duration.specs.Reciprocal.{decimal, reciprocalLength, added, dotted}
 use Rattle.duration.specs.declared.Value.{Value}
 use Rattle.duration.specs.declared.Value.the-variants.{Missing, Plain, Tuplet}
-use Rattle.duration.proofs.Numbers.{clash}
 use Rattle.duration.proofs.Kept.{Worth, Outcome, breve, longa, reciprocal, none, outcome}
 
 -- how long a value with d dots lasts

@@ -1,5 +1,4 @@
 -- An accepted text has few parts and notes, and its sheet is shorter than 2^32 bytes.
-pub mod TokenLaws
 pub mod LineLaws
 pub mod StateLaws
 pub mod HeaderLaws

@@ -7,6 +7,7 @@ use mathlib.Core.Bool.{Bool, true, false, cond, _||_}
 use lib.Dec.{eqb, leb}
 use lib.ListN.{length, length-append, length-reverse}
 use borrow.Author.Tests.{leb-true}
+use Rattle.slices.proofs.TotalLaws.{total, pieces-total}
 use Rattle.utf8.specs.Utf8.{utf8Length}
 use Rattle.lines.specs.Lines.{linesOf, withoutCRs, kindOf}
 use Rattle.sheet.specs.Record.{Record, headBytes, recordBytes, recordsBytes}
@@ -20,7 +21,6 @@ use Rattle.reading.specs.Bars.{anyNoted, closing}
 use Rattle.reading.specs.Records.{readLine, isRecord}
 use Rattle.reading.specs.Text.{Answer, refusal, accepted, partRecord, endRecord, lastClosing, lastRecords, finish, readLines, readText, sheetBytes}
 use Rattle.extent.specs.Extent.{Extent}
-use Rattle.extent.proofs.LineLaws.{total, lines-total}
 use Rattle.extent.proofs.StateLaws.{Holds, After, Passes, bytes-append, bytes-none, bytes-one, widen, quiet-holds}
 use Rattle.extent.proofs.BarLaws.{bytes-parts, closing-holds}
 use Rattle.extent.proofs.RecordLaws.{line-holds}
@@ -124,7 +124,7 @@ text-bounded text = go (leb (length text) 67108864) (eqb (utf8Length text) (leng
   where
     go : (x y : Bool) → leb (length text) 67108864 ≡ x
         → Bounded (cond x (cond y (readLines false 0 0 [] start (linesOf text)) (refusal 2 0 (utf8Length text))) (refusal 1 0 (length text)))
-    go true true e = lines-bounded false 0 0 [] start (linesOf text) (omega (arith, lines-total text, leb-true (length text) 67108864 e)) start-holds
+    go true true e = lines-bounded false 0 0 [] start (linesOf text) (omega (arith, pieces-total 10 text, leb-true (length text) 67108864 e)) start-holds
     go true false e = tt
     go false y e = tt
 

@@ -1,35 +1,20 @@
--- The pieces of a text: they have its bytes, and together no more than it.
+-- The pieces of a text have its bytes, and a repaired record no more but its `*`.
 use mathlib.Core.Path.{_≡_, refl, ap}
 use mathlib.Core.Bool.{Bool, true, false, cond}
 use mathlib.Core.List.{List, [], _∷_, _++_}
 use Prim.Native.Nat.{ℕ, zero, suc, _+_, _-_, _≤_}
 use native.Mathlib.Omega.{arith}
 use lib.Dec.{eqb}
-use lib.ListN.{length, take, replicate}
+use lib.ListN.{length, replicate, length-take, length-append, length-replicate}
 use Rattle.sheet.specs.Fits.{All, u8}
 use Rattle.slices.specs.Split.{join, split}
+use Rattle.slices.proofs.TotalLaws.{total, take-total}
 use Rattle.lines.specs.Lines.{keep, withoutCRs}
 use Rattle.repair.specs.Repair.{repairBy}
 use Rattle.repair.specs.declared.Repair.{Repair}
 use Rattle.repair.specs.declared.Repair.the-variants.{Whole, Cut, Stars, Bars}
 use Rattle.reading.specs.Notices.{Token, placed}
 use Rattle.fits.proofs.Each.{all-append, all-take, all-replicate}
-
--- the bytes of the pieces, each with the byte behind it
-abbrev pub total : List (List ℕ) → ℕ
-total [] = 0
-total (p ∷ ps) = length p + 1 + total ps
-
-join-total : (t : Bool) (x : ℕ) (ps : List (List ℕ)) (n : ℕ) → total ps ≤ n + 1 → total (join t x ps) ≤ n + 2
-unfolding join
-join-total true x ps n h = omega arith
-join-total false x [] n h = omega arith
-join-total false x (p ∷ ps) n h = omega arith
-
-pub split-total : (b : ℕ) (s : List ℕ) → total (split b s) ≤ length s + 1
-unfolding split
-split-total b [] = omega arith
-split-total b (x ∷ s) = omega (arith, join-total (eqb x b) x (split b s) (length s) (split-total b s))
 
 join-bytes : (t : Bool) (x : ℕ) (ps : List (List ℕ)) → u8 x → All (All u8) ps → All (All u8) (join t x ps)
 unfolding join
@@ -61,23 +46,28 @@ content-bytes (x ∷ s) h = keep-bytes x (withoutCRs s) (h .0) (content-bytes s 
 -- ---- a repaired record: `*` is all that is filled in, but for barlines
 
 total-append : (ps qs : List (List ℕ)) → total (ps ++ qs) ≡ total ps + total qs
+unfolding total
 total-append [] qs = omega arith
 total-append (p ∷ ps) qs = omega (arith, total-append ps qs)
 
-total-stars : (n : ℕ) → total (replicate n (42 ∷ [])) ≡ n + n
+total-stars : (n : ℕ) → total (replicate n (42 ∷ [])) ≡ n
+unfolding total
 total-stars zero = omega arith
 total-stars (suc n) = omega (arith, total-stars n)
 
-total-take : (n : ℕ) (ps : List (List ℕ)) → total (take n ps) ≤ total ps
-total-take zero ps = omega arith
-total-take (suc n) [] = omega arith
-total-take (suc n) (p ∷ ps) = omega (arith, total-take n ps)
-
-pub repaired-total : (r : Repair) (n : ℕ) (ts : List (List ℕ)) → (r ≡ Bars → ⊥) → total (repairBy r n ts) ≤ total ts + n + n
+pub repaired-total : (r : Repair) (n : ℕ) (ts : List (List ℕ)) → (r ≡ Bars → ⊥)
+    → total (repairBy r n ts) + length (repairBy r n ts) ≤ total ts + length ts + n + n
 unfolding repairBy
 repaired-total Whole n ts h = omega arith
-repaired-total Cut n ts h = omega (arith, total-take n ts)
-repaired-total Stars n ts h = omega (arith, total-append ts (replicate (n - length ts) (42 ∷ [])), total-stars (n - length ts))
+repaired-total Cut n ts h = omega (arith, take-total n ts, length-take n ts)
+repaired-total Stars n ts h =
+    omega (
+      arith,
+      total-append ts (replicate (n - length ts) (42 ∷ [])),
+      total-stars (n - length ts),
+      length-append ts (replicate (n - length ts) (42 ∷ [])),
+      length-replicate {A = List ℕ} (n - length ts) (42 ∷ []),
+    )
 repaired-total Bars n ts h = absurd (h refl)
 
 pub repaired-bytes : (r : Repair) (n : ℕ) (ts : List (List ℕ)) → (r ≡ Bars → ⊥) → All (All u8) ts → All (All u8) (repairBy r n ts)
@@ -95,8 +85,8 @@ pub record TokenFits (t : Token) : Type 0 where
   pub ends : t .at + length (t .bytes) ≤ 134217728
   pub bytes : All u8 (t .bytes)
 
-pub placed-fit : (at : ℕ) (ts : List (List ℕ)) → at + total ts ≤ 134217728 → All (All u8) ts → All TokenFits (placed at ts)
-unfolding placed
+pub placed-fit : (at : ℕ) (ts : List (List ℕ)) → at + (total ts + length ts) ≤ 134217728 → All (All u8) ts → All TokenFits (placed at ts)
+unfolding placed total
 placed-fit at [] h k = tt
 placed-fit at (t ∷ ts) h k = (record { ends = omega arith; bytes = k .0 }, placed-fit (at + length t + 1) ts (omega arith) (k .1))
 

@@ -7,6 +7,7 @@ use native.Mathlib.Omega.{arith}
 use lib.Dec.{ltb}
 use lib.ListN.{length, drop, length-drop, length-map}
 use borrow.Author.Tests.{ltb-false}
+use Rattle.slices.proofs.TotalLaws.{split-total}
 use Rattle.sheet.specs.Fits.{All, u8, u32, SpanFits}
 use Rattle.sheet.specs.declared.Span.{Span}
 use Rattle.lines.specs.Tokens.{tokensOf, isKern, isExclusive}
@@ -19,7 +20,7 @@ use Rattle.repair.specs.Repair.{each}
 use Rattle.reading.specs.State.{State, refused, goes, withRow, withParts}
 use Rattle.reading.specs.Notices.{Token, placed, spanOfToken, after, notify}
 use Rattle.reading.specs.Header.{keySpan, valueSpan, byKey, readReference, noticeOthers, freshParts, anyKern, readHeader}
-use Rattle.fits.proofs.Cuts.{TokenFits, split-total, split-bytes, placed-fit, placed-length}
+use Rattle.fits.proofs.Cuts.{TokenFits, split-bytes, placed-fit, placed-length}
 use Rattle.fits.proofs.Rows.{header-fits}
 use Rattle.fits.proofs.Good.{Good, Fine, FineStep, refuses, going, PartGood, span-fits, token-span, fresh-good, fine-quiet, fine-after, fine-keep, plain-notice, fine-notify}
 use Rattle.paths.proofs.TextLaws.{header-length}

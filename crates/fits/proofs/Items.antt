@@ -1,12 +1,12 @@
--- The items of a token: each a byte of it or a value, and no more than it has bytes.
+-- The items of a token: each a byte of it or a value.
 use mathlib.Core.Path.{_≡_, refl}
 use mathlib.Core.Bool.{Bool, true, false, cond}
 use mathlib.Core.List.{List, [], _∷_}
-use Prim.Native.Nat.{ℕ, suc, _+_, _≤_}
+use Prim.Native.Nat.{ℕ, suc, _+_}
 use native.Mathlib.Omega.{arith}
 use native.Mathlib.Nat.{mod-lt}
 use lib.Dec.{eqb, ltb}
-use lib.ListN.{length, length-append}
+use lib.ListN.{length}
 use borrow.Author.Tests.{ltb-true}
 use Rattle.sheet.specs.Fits.{All, u8}
 use Rattle.duration.specs.Duration.{durationOf}
@@ -21,12 +21,11 @@ use Rattle.pitch.proofs.SignLaws.{altered-byte}
 use Rattle.items.specs.Items.{isDigit, isLetter, joins, into, runs, itemOf, itemsOf, items}
 use Rattle.items.specs.declared.Item.{Item}
 use Rattle.items.specs.declared.Item.the-variants.{Digits, Letters, Blank, Mark}
-use Rattle.token.specs.Token.{fits, passes, begun, signed, given, heard, signifiers, marks, articulation, articulationsIn}
+use Rattle.token.specs.Token.{fits, passes, begun, signed, given, heard, signifiers, articulation, articulationsIn}
 use Rattle.token.specs.declared.pitches.Tone.{Tone}
 use Rattle.token.specs.declared.pitches.Sound.{Sound}
 use Rattle.token.specs.declared.pitches.Sound.the-variants.{Silence, Of}
 use Rattle.fits.proofs.Each.{all-append}
-use Rattle.token.proofs.FewLaws.{marks-few, articulations-few}
 
 -- ---- values
 
@@ -87,10 +86,7 @@ all-items (r ∷ rs) h = (item-fits r (h .0), all-items rs (h .1))
 pub items-fit : (s : List ℕ) → All u8 s → All ItemFits (items s)
 items-fit s h = all-items (runs s) (runs-bytes s h)
 
--- ---- marks and articulations
-
-pub articulations-length : (is : List Item) → length (articulationsIn (marks is)) ≤ length is
-articulations-length is = omega (arith, articulations-few (marks is), marks-few is)
+-- ---- articulations
 
 pub articulations-fit : (bs : List ℕ) → All u8 (articulationsIn bs)
 unfolding articulationsIn
@@ -111,10 +107,6 @@ abbrev SoundFits : Sound → Type 0
 SoundFits Silence = Unit {0}
 SoundFits (Of t) = ToneFits t
 
-abbrev one : Sound → ℕ
-one Silence = 0
-one (Of t) = 1
-
 begun-fits : (s : Sound) (c n : ℕ) → SoundFits s → SoundFits (begun s (pitchOf c n))
 begun-fits s c n h = go s h (pitchOf c n) refl
   where
@@ -123,26 +115,13 @@ begun-fits s c n h = go s h (pitchOf c n) refl
     go Silence h Outside e = tt
     go (Of t) h p e = h
 
-begun-one : (s : Sound) (p : Pitch) → one (begun s p) ≤ one s + 1
-begun-one Silence (At step octave) = omega arith
-begun-one Silence Outside = omega arith
-begun-one (Of t) p = omega arith
-
 signed-fits : (s : Sound) (b : ℕ) → SoundFits s → SoundFits (signed s b)
 signed-fits Silence b h = tt
 signed-fits (Of t) b h = (h .0, h .1, altered-byte (t .alter) b (h .2))
 
-signed-one : (s : Sound) (b : ℕ) → one (signed s b) ≡ one s
-signed-one Silence b = refl
-signed-one (Of t) b = refl
-
 given-fits : (s : Sound) → SoundFits s → All ToneFits (given s)
 given-fits Silence h = tt
 given-fits (Of t) h = (h, tt)
-
-given-one : (s : Sound) → length (given s) ≡ one s
-given-one Silence = refl
-given-one (Of t) = refl
 
 pub heard-fits : (s : Sound) (is : List Item) → SoundFits s → All ToneFits (heard s is)
 unfolding heard
@@ -151,14 +130,6 @@ heard-fits s (Digits v ∷ is) h = heard-fits s is h
 heard-fits s (Letters c n ∷ is) h = heard-fits (begun s (pitchOf c n)) is (begun-fits s c n h)
 heard-fits s (Blank ∷ is) h = all-append ToneFits (given s) (heard Silence is) (given-fits s h) (heard-fits Silence is tt)
 heard-fits s (Mark b ∷ is) h = heard-fits (signed s b) is (signed-fits s b h)
-
-pub heard-length : (s : Sound) (is : List Item) → length (heard s is) ≤ one s + length is
-unfolding heard
-heard-length s [] = omega (arith, given-one s)
-heard-length s (Digits v ∷ is) = omega (arith, heard-length s is)
-heard-length s (Letters c n ∷ is) = omega (arith, heard-length (begun s (pitchOf c n)) is, begun-one s (pitchOf c n))
-heard-length s (Blank ∷ is) = omega (arith, length-append (given s) (heard Silence is), given-one s, heard-length Silence is)
-heard-length s (Mark b ∷ is) = omega (arith, heard-length (signed s b) is, signed-one s b)
 
 pub alter-fits : (a : ℕ) → u8 (twosComplement a)
 unfolding twosComplement

@@ -11,12 +11,13 @@ use borrow.Author.Tests.{eqb-true}
 use Rattle.sheet.specs.Record.{spanOf}
 use Rattle.sheet.specs.Fits.{All, u8}
 use Rattle.slices.specs.Compare.{beginsWith}
+use Rattle.slices.proofs.TestLaws.{clash, both}
+use Rattle.slices.proofs.TotalLaws.{split-total}
 use Rattle.lines.specs.Lines.{kindOf}
 use Rattle.lines.specs.Tokens.{tokensOf, isStar}
 use Rattle.lines.specs.declared.Kind.{Kind}
 use Rattle.lines.specs.declared.Kind.the-variants.{Empty, Reference, Comment, Star, Bar, Data}
 use Rattle.lines.proofs.KindLaws.{kind-bar}
-use Rattle.duration.proofs.Numbers.{clash, and-true}
 use Rattle.repair.specs.Repair.{each, firstOf, isBar, identicalBars, repairOf, repairBy, repaired, questions, repairedOf}
 use Rattle.repair.specs.declared.Repair.{Repair}
 use Rattle.repair.specs.declared.Repair.the-variants.{Whole, Cut, Stars, Bars}
@@ -28,7 +29,7 @@ use Rattle.reading.specs.State.{State}
 use Rattle.reading.specs.Notices.{Token, placed, notify}
 use Rattle.reading.specs.Notes.{behind}
 use Rattle.reading.specs.Records.{noticeRepair, byKind, byRepair, onRow, onRecord, byLine, readLine}
-use Rattle.fits.proofs.Cuts.{TokenFits, split-total, split-bytes, repaired-total, repaired-bytes, placed-fit}
+use Rattle.fits.proofs.Cuts.{TokenFits, split-bytes, repaired-total, repaired-bytes, placed-fit}
 use Rattle.fits.proofs.Good.{Good, Fine, FineStep, refuses, going, ending, span-fits, fine-quiet, fine-more, step-more, fine-notify}
 use Rattle.fits.proofs.Headers.{fine-reference, fine-header}
 use Rattle.fits.proofs.Stars.{fine-star}
@@ -40,13 +41,13 @@ use Rattle.fits.proofs.Notes.{fine-data, fine-behind}
 bar-kind : (line : List ℕ) → isBar line ≡ true → kindOf line ≡ Bar
 unfolding isBar beginsWith
 bar-kind [] e = clash cc
-bar-kind (x ∷ s) e = sym (kind-bar (x ∷ s) (λ z. omega arith) (eqb-true x 61 (and-true (eqb x 61) true e .0)))
+bar-kind (x ∷ s) e = sym (kind-bar (x ∷ s) (λ z. omega arith) (eqb-true x 61 (both (eqb x 61) true e .0)))
 
 filled-bars : (n : ℕ) (line : List ℕ) → Bars ≡ repairOf n (tokensOf line) → kindOf line ≡ Bar
 unfolding identicalBars
 filled-bars n line e =
     let a : Applies n (tokensOf line) Bars = subst (Applies n (tokensOf line)) (sym e) (applies n (tokensOf line)) in
-    bar-kind line (bar-first line ∙ and-true (isBar (firstOf (tokensOf line))) _ (a .1) .0)
+    bar-kind line (bar-first line ∙ both (isBar (firstOf (tokensOf line))) _ (a .1) .0)
 
 is-bars : (r : Repair) → (r ≡ Bars) ⊎ (r ≡ Bars → ⊥)
 is-bars Whole = inr (λ e. clash cc)

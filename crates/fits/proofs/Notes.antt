@@ -26,12 +26,12 @@ use Rattle.reading.specs.Notices.{Token, spanOfToken, quiet, notify}
 use Rattle.reading.specs.Bars.{isKernSpine}
 use Rattle.reading.specs.Notes.{bit, flagsOf, pitchOfTone, beamIn, sounded, noteRecord, addNote, behind, byOutcome, signify, inferredFor, readToken-at, readSpine, andThen, readTokens, readData}
 use Rattle.fits.proofs.Each.{either, all-map, all-append}
-use Rattle.fits.proofs.Items.{ToneFits, items-fit, heard-fits, heard-length, articulations-fit, articulations-length, alter-fits, signifiers-fit}
+use Rattle.fits.proofs.Items.{ToneFits, items-fit, heard-fits, articulations-fit, alter-fits, signifiers-fit}
 use Rattle.fits.proofs.Outcomes.{Sized, OutcomeFits, token-fits}
 use Rattle.fits.proofs.Cuts.{TokenFits}
 use Rattle.fits.proofs.Rows.{SpineFits}
 use Rattle.fits.proofs.Good.{Good, Fine, FineStep, refuses, going, ending, token-span, part-good, with-part, fine-quiet, fine-after, fine-notify, fine-signifiers}
-use Rattle.token.proofs.FewLaws.{items-few, signifiers-few}
+use Rattle.token.proofs.FewLaws.{items-few, signifiers-few, gives}
 
 -- ---- the record
 
@@ -65,19 +65,11 @@ note-tones : (token : List ℕ) → All ToneFits (notePitches token)
 note-tones token =
     either (All ToneFits) (restOf (items token)) [] (pitchesOf (items token)) tt (heard-fits Silence (items token) tt)
 
-shorter : (t : Bool) (ts : List Tone) (n : ℕ) → length ts ≤ n → length (cond t [] ts) ≤ n
-shorter true ts n h = omega arith
-shorter false ts n h = h
-
-tones-length : (token : List ℕ) → length (notePitches token) ≤ length token
-tones-length token =
-    shorter (restOf (items token)) (pitchesOf (items token)) (length token)
-    (omega (arith, heard-length Silence (items token), items-few token))
-
 note-fits : {m : ℕ} (p v k j : ℕ) (t : Token) (n : Note) (st : State) → u8 p → u8 v → u32 k → u16 j → m < 134217728 → TokenFits t → Sized n
     → Listed (t .bytes) n → Good m st → Fits (noteRecord p v k j (t .bytes) n st)
 unfolding noteRecord
 note-fits p v k j t n st hp hv hk hj w f s l g =
+    let few = gives (t .bytes) in
     record {
       bytes =
           (hp, (hv, (s .value, (s .dots, (flags-fit n, (s .actual, (s .normal, (beam-fits (beamIn (partAt st p) v (t .bytes) .mark), tt))))))));
@@ -87,8 +79,8 @@ note-fits p v k j t n st hp hv hk hj w f s l g =
         (
           hk,
           (
-            omega (arith, l .pitches, tones-length (t .bytes), f .ends),
-            (omega (arith, l .articulations, articulations-length (items (t .bytes)), items-few (t .bytes), f .ends), tt),
+            omega (arith, l .pitches, few .pitches, f .ends),
+            (omega (arith, l .articulations, few .articulations, f .ends), tt),
           ),
         ),
       );

@@ -14,7 +14,7 @@ use Rattle.items.specs.declared.Item.{Item}
 use Rattle.items.specs.declared.Item.the-variants.{Digits, Letters, Blank, Mark}
 use Rattle.token.specs.Token.{isBlank, upToBlank, firstSub, givenIn, dotsOf}
 use Rattle.token.specs.Scan.{scanItems, scanOf}
-use Rattle.token.specs.Outcome.{noteOf, noted, fromPeers, withoutDigits, byGiven, measured, outcomeOf, readToken}
+use Rattle.token.specs.Outcome.{noteOf, byValue, noted, fromPeers, withoutDigits, byGiven, measured, outcomeOf, readToken}
 use Rattle.token.specs.declared.scan.Scan.{Scan}
 use Rattle.token.specs.declared.scan.Given.{Given}
 use Rattle.token.specs.declared.scan.Given.the-variants.{Nothing, Length}
@@ -82,24 +82,19 @@ module _ (s : Scan) (few : u8 (s .dots)) where
   unfolding noteOf
   note-of i v a n h k l = record { value = h; actual = k; normal = l; dots = few }
 
-  noted-fits : (i : Bool) (v : Value) → ValueFits v → OutcomeFits (noted i v s)
-  noted-fits i Missing h = (omega arith, refl)
-  noted-fits i (Plain v) h = note-of i v 0 0 h (omega arith) (omega arith)
-  noted-fits i (Tuplet v a n) h = note-of i v a n (h .0) (h .1) (h .2)
-
-  peers-fit : (v : Value) → ValueFits v → OutcomeFits (fromPeers v s)
-  peers-fit Missing h = (omega arith, refl)
-  peers-fit (Plain v) h = note-of true v 0 0 h (omega arith) (omega arith)
-  peers-fit (Tuplet v a n) h = note-of true v a n (h .0) (h .1) (h .2)
+  value-sized : (number : ℕ) (i : Bool) (v : Value) → Plainly number → ValueFits v → OutcomeFits (byValue number i v s)
+  value-sized number i Missing p h = p
+  value-sized number i (Plain v) p h = note-of i v 0 0 h (omega arith) (omega arith)
+  value-sized number i (Tuplet v a n) p h = note-of i v a n (h .0) (h .1) (h .2)
 
   by-given : (g : Given) (v : Value) → GivenFits g → ValueFits v → OutcomeFits (byGiven g s v)
   unfolding withoutDigits
   by-given Nothing v g h = go (eqb (s .grace) 0)
     where
-      go : (t : Bool) → OutcomeFits (cond t (fromPeers v s) (noted false (Plain 5) s))
-      go true = peers-fit v h
-      go false = noted-fits false (Plain 5) (omega arith)
-  by-given (Length w) v g h = noted-fits false w g
+      go : (t : Bool) → OutcomeFits (cond t (fromPeers v s) (noted (Plain 5) s))
+      go true = value-sized 21 true v (omega arith, refl) h
+      go false = value-sized 19 false (Plain 5) (omega arith, refl) (omega arith)
+  by-given (Length w) v g h = value-sized 19 false w (omega arith, refl) g
 
   outcome-fits : (v : Value) → GivenFits (s .given) → ValueFits v → OutcomeFits (outcomeOf s v)
   unfolding outcomeOf

@@ -7,6 +7,7 @@ use native.Mathlib.Omega.{arith}
 use lib.Dec.{eqb, leb}
 use lib.ListN.{length, getD}
 use borrow.Author.Tests.{leb-true}
+use Rattle.slices.proofs.TotalLaws.{total, split-total}
 use Rattle.sheet.specs.Record.{Record}
 use Rattle.sheet.specs.Fits.{All, u8, Fits}
 use Rattle.utf8.specs.Utf8.{utf8Length}
@@ -17,7 +18,7 @@ use Rattle.reading.specs.Bars.{anyNoted, closing}
 use Rattle.reading.specs.Records.{readLine, isRecord}
 use Rattle.reading.specs.Text.{Answer, refusal, accepted, partRecord, lastPart, endRecord, lastClosing, lastRecords, finish, readLines, readText}
 use Rattle.fits.proofs.Each.{either, all-append, all-reverse, all-map, all-bytes}
-use Rattle.fits.proofs.Cuts.{total, split-total, split-bytes, content-bytes}
+use Rattle.fits.proofs.Cuts.{split-bytes, content-bytes}
 use Rattle.fits.proofs.Good.{numbers, Good, Fine, FineStep, going, ending, PartGood, good-start, good-more, fresh-good, fine-quiet}
 use Rattle.fits.proofs.Bars.{fine-closing}
 use Rattle.fits.proofs.Lines.{fine-line}
@@ -81,9 +82,9 @@ finish-fits {n} begun before st w h g =
 
 -- ---- the lines
 
-lines-fit : (begun : Bool) (k at : ℕ) (before : List Record) (st : State) (ls : List (List ℕ)) → k ≤ at → at + total ls ≤ 67108865
+lines-fit : (begun : Bool) (k at : ℕ) (before : List Record) (st : State) (ls : List (List ℕ)) → k ≤ at → at + (total ls + length ls) ≤ 67108865
     → All (All u8) ls → All Fits before → Good k st → AnswerFits (readLines begun k at before st ls)
-unfolding readLines
+unfolding readLines total
 lines-fit begun k at before st [] w t b h g = finish-fits begun before st (omega arith) h g
 lines-fit begun k at before st (l ∷ ls) w t b h g =
     go (readLine begun (k + 1) at (withoutCRs l) st)

@@ -6,6 +6,7 @@ use mathlib.Core.Bool.{Bool, true, false}
 use mathlib.Core.List.{List, [], map}
 use lib.ListN.{length, take, drop, length-drop}
 use borrow.Author.Tests.{lt-ltb, le-ltb}
+use Rattle.state.specs.Counts.{Same}
 use Rattle.lines.specs.Tokens.{tokensOf, isKern, isExclusive}
 use Rattle.reference.specs.Reference.{referenceOf}
 use Rattle.reference.specs.declared.Reference.{Reference}
@@ -28,7 +29,6 @@ use Rattle.state.specs.declared.Tally.{Tally}
 use Rattle.state.specs.declared.Step.the-variants.{Goes}
 use Rattle.writing.specs.Kept.{keptRecords, afterKept}
 use Rattle.writing.proofs.KeptLaws.{kept-told}
-use Rattle.header.specs.Columns.{Same}
 use Rattle.header.proofs.ColumnLaws.{any-none, any-some}
 
 -- ---- reference records
@@ -124,7 +124,7 @@ module _ (s : List ℕ) (k offset : ℕ) (t : Tally) (row parts : List ℕ) (out
       → Same (begun t n m) r × ((cells parts : List ℕ) → told (Goes r) cells parts last ≡ landed (goes (noticeOthers k 1 (placed offset (tokensOf s)) (stateOf cells parts (begun t n m)))) out (t .at))
       → (cells old : List ℕ) → going (stateOf (take (r .active) row) parts r) (r .at) last ≡ landed (readHeader k offset s (stateOf cells old t)) out (t .at)
   header-told r last w cells old =
-      let x : take (r .active) row ≡ take (length (tokensOf s)) row = ap (λ (i : ℕ). take i row) (w .0 .spines ∙ e) in
+      let x : take (r .active) row ≡ take (length (tokensOf s)) row = ap (λ (i : ℕ). take i row) (w .0 .active ∙ e) in
       let ks = map isKern (tokensOf s) in
       let st = stateOf cells old t in
       w .1 (take (r .active) row) parts

@@ -1,5 +1,5 @@
 -- Reference records, and the header's notices, as they land in the buffer.
-use mathlib.Core.Path.{_≡_, refl, sym, ap, ap₂, _∙_}
+use mathlib.Core.Path.{_≡_, refl, sym, ap, ap₂, _∙_, subst}
 use Prim.Native.Nat.{ℕ, _+_, _-_, _≤_, _<_, _^_}
 use native.Mathlib.Numerals.{add-one}
 use native.Mathlib.Omega.{arith}
@@ -9,6 +9,8 @@ use lib.ListN.{length, take, drop, length-drop}
 use lib.Seq.{length-take-le}
 use Rattle.slices.specs.Split.{pieces}
 use Rattle.slices.proofs.SplitLaws.{no-piece, all-pieces}
+use Rattle.state.proofs.CountLaws.{same, same-same}
+use Rattle.state.specs.Counts.{Same}
 use Rattle.lines.specs.Lines.{pieceEnd}
 use Rattle.lines.specs.Tokens.{tokensOf, isKern}
 use Rattle.lines.proofs.PieceLaws.{piece-at}
@@ -23,13 +25,13 @@ use Rattle.state.specs.declared.Step.the-variants.{Goes}
 use Rattle.state.proofs.LayLaws.{laid-append, behind-append}
 use Rattle.writing.specs.Kept.{noticeOf, keptRecords, afterKept}
 use Rattle.writing.proofs.KeptLaws.{kept-same, notify-told}
-use Rattle.header.specs.Columns.{noticeOther, Same}
+use Rattle.header.specs.Columns.{noticeOther}
 
 -- ---- a notice for a column
 pub other-kern : (token : List ℕ) (k j at : ℕ) (t : Tally) (out : List ℕ) → isKern token ≡ true
     → Same t t × ((cells parts : List ℕ) → told (Goes t) cells parts out ≡ landed (goes (noticeOther k j at token (stateOf cells parts t))) out (t .at))
 unfolding noticeOther laid behind
-other-kern token k j at t out e = (record { spines = refl; parts = refl }, λ cells parts. rw e refl)
+other-kern token k j at t out e = (same t, λ cells parts. rw e refl)
 
 pub other-told : (token : List ℕ) (k j at : ℕ) (t r : Tally) (out last : List ℕ) → isKern token ≡ false
     → (last ≡ laid out (t .at) (keptRecords t (noticeOf 2 k j (spanOf at (length token))) [])) × (r ≡ afterKept t (noticeOf 2 k j (spanOf at (length token))) [])
@@ -37,8 +39,8 @@ pub other-told : (token : List ℕ) (k j at : ℕ) (t r : Tally) (out last : Lis
 unfolding noticeOther
 other-told token k j at t r out last e w =
     let n = noticeOf 2 k j (spanOf at (length token)) in
-    let s = kept-same t n [] in (
-      record { spines = ap (λ (x : Tally). x .active) (w .1) ∙ s .active; parts = ap (λ (x : Tally). x .parts) (w .1) ∙ s .parts },
+    (
+      subst (Same t) (sym (w .1)) (kept-same t n []),
       λ cells parts.
           ap₂ (λ (x : Tally) (y : List ℕ). told (Goes x) cells parts y) (w .1) (w .0)
           ∙ notify-told cells parts t 2 k j (spanOf at (length token)) out
@@ -90,7 +92,7 @@ pub record Noticing (s : List ℕ) (k offset : ℕ) (t₀ : Tally) (out₀ : Lis
 pub noticing-first : {s : List ℕ} {k offset : ℕ} {t : Tally} {out : List ℕ} → Noticing s k offset t out t out 0 1
 noticing-first {s} {k} {offset} {t} {out} = record {
   kept = refl;
-  same = record { spines = refl; parts = refl };
+  same = same t;
   count = ap (λ (l : List (List ℕ)). 1 + length l) (all-pieces 9 s);
   left =
       λ cells parts.
@@ -116,7 +118,7 @@ module _ {s : List ℕ} {k offset : ℕ} {t₀ t : Tally} {out₀ out : List ℕ
       → Noticing s k offset t₀ out₀ r last (e + 1) (j + 1)
   noticing-turn {r} {last} l w = record {
     kept = l ∙ inv .kept;
-    same = record { spines = w .0 .spines ∙ inv .same .spines; parts = w .0 .parts ∙ inv .same .parts };
+    same = same-same (inv .same) (w .0);
     count = omega (arith, inv .count, ap length here-piece);
     left =
         λ cells parts.

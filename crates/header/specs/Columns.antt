@@ -1,4 +1,4 @@
--- The header's table of active spines; a column outside kern, and the counts that its notice leaves alone.
+-- The header's table of active spines; a column outside kern.
 use mathlib.Core.Path.{_≡_}
 use Prim.Native.Nat.{ℕ, _≤_}
 use mathlib.Core.List.{List, map}
@@ -13,16 +13,10 @@ use Rattle.sheet.specs.Record.{spanOf}
 use Rattle.reading.specs.State.{State, Result}
 use Rattle.reading.specs.Notices.{quiet, notify}
 use Rattle.reading.specs.Header.{freshParts}
-use Rattle.state.specs.declared.Tally.{Tally}
 
 -- "2 spine not kern", of the token of column j at an offset of the text
 unfoldable pub noticeOther : ℕ → ℕ → ℕ → List ℕ → State → Result
 noticeOther k j at token st = cond (isKern token) (quiet st) (notify 2 k j (spanOf at (length token)) st)
-
--- as many active spines and parts
-pub record Same (t r : Tally) : Type 0 where
-  pub spines : r .active ≡ t .active
-  pub parts : r .parts ≡ t .parts
 
 -- of a header's tokens: the cells of the first n spines are the first row, and p the parts
 pub record HeaderTable (ts : List (List ℕ)) (spines : List Active) (n p : ℕ) : Type 0 where

@@ -20,7 +20,8 @@ ghost use Rattle.reading.specs.Header.{readReference, noticeOthers, freshParts,
 ghost use Rattle.state.specs.Parts.{partOf, partsOf};
 ghost use Rattle.state.specs.View.{stateOf, landed, told, toldRow};
 ghost use Rattle.state.specs.declared.Step.the-variants.{Goes};
-ghost use Rattle.header.specs.Columns.{noticeOther, Same, HeaderTable};
+ghost use Rattle.header.specs.Columns.{noticeOther, HeaderTable};
+ghost use Rattle.state.specs.Counts.{Same};
 
 // A reference record: `!!!OTL`, `!!!COM` and `!!!LYR` set title, composer and lyricist; any other key gives notice 1.
 pub fn read_reference(line: &[u8], number: u32, offset: u32, tally: Tally, out: &mut [u8]) -> Tally

@@ -9,7 +9,7 @@ use lib.Dec.{leb}
 use lib.ListN.{length, drop, getD, drop-of-length-le}
 use borrow.Author.Tests.{leb-true, leb-false}
 use Rattle.slices.proofs.SplitLaws.{at-index}
-use Rattle.interpretation.proofs.Lists.{both}
+use Rattle.slices.proofs.TestLaws.{both}
 use Rattle.interpretation.specs.Digits.{isDigit, allDigits, decimalOn, decimal}
 use Rattle.interpretation.specs.Number.{numberUpTo}
 use Rattle.interpretation.specs.declared.digits.Number.{Number}

@@ -3,12 +3,11 @@ use mathlib.Core.Path.{_≡_, refl, sym, ap, _∙_}
 use Prim.Native.Nat.{ℕ, _<_}
 use native.Mathlib.Omega.{arith}
 use mathlib.Core.List.{List, [], _∷_}
-use mathlib.Core.Bool.{Bool, true, false}
+use mathlib.Core.Bool.{Bool, true, false, and-false}
 use lib.Dec.{eqb}
 use lib.ListN.{length, getD, drop}
 use borrow.Author.Tests.{eq-eqb, ne-eqb}
 use Rattle.slices.specs.Compare.{beginsWith}
-use Rattle.interpretation.proofs.Lists.{never-both}
 use Rattle.interpretation.specs.declared.Interpretation.{Interpretation}
 use Rattle.interpretation.specs.declared.Interpretation.the-variants.{Nothing, Name, ShortName, Notice}
 use Rattle.interpretation.specs.Digits.{isDigit}
@@ -22,7 +21,7 @@ use Rattle.interpretation.specs.Interpretation.{clefMark, keyMark, symbo
 pub mark-short : (s : List ℕ) → length s < 2 → false ≡ meterMark s
 unfolding meterMark isDigit
 mark-short [] h = refl
-mark-short (x ∷ []) h = sym (never-both (eqb x 77))
+mark-short (x ∷ []) h = sym (and-false (eqb x 77))
 mark-short (x ∷ y ∷ s) h = absurd (omega arith)
 
 pub mark-not : (s : List ℕ) → (getD s 0 0 ≡ 77 → ⊥) → false ≡ meterMark s

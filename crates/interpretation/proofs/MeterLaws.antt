@@ -11,7 +11,7 @@ use lib.ListN.{length, take, drop, getD}
 use borrow.Author.Tests.{le-leb, lt-leb, lt-ltb, le-ltb, eq-eqb, ne-eqb, leb-true}
 use Rattle.slices.specs.Finite.{below}
 use Rattle.slices.specs.Split.{indexOf}
-use Rattle.interpretation.proofs.Lists.{both}
+use Rattle.slices.proofs.TestLaws.{clash, both}
 use Rattle.interpretation.proofs.DigitLaws.{number-not, number-is}
 use Rattle.interpretation.specs.Digits.{allDigits, decimal}
 use Rattle.interpretation.specs.Number.{numberUpTo, byteNumber}
@@ -55,7 +55,7 @@ module _ (s : List ℕ) where
       go true t p =
           let v : n ≡ decimal s = cc in
           omega (arith, leb-true (decimal s) 255 (both (ltb 0 (length s) && allDigits s) (leb (decimal s) 255) t .1))
-      go false t p = let z : _≡_ {A = ℕ} 0 1 = cc in omega arith
+      go false t p = clash cc
 
 -- a rule over all 256 numbers, computed
 power-at : ℕ → Bool

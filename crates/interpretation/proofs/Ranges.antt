@@ -11,7 +11,7 @@ use borrow.Author.Tests.{leb-true, ltb-true, eqb-false}
 use Rattle.slices.specs.Compare.{beginsWith}
 use Rattle.slices.specs.Finite.{below}
 use Rattle.slices.specs.Split.{indexOf}
-use Rattle.interpretation.proofs.Lists.{both}
+use Rattle.slices.proofs.TestLaws.{both}
 use Rattle.interpretation.proofs.NameLaws.{place-most}
 use Rattle.interpretation.proofs.MeterLaws.{byte-small}
 use Rattle.interpretation.proofs.TempoLaws.{rounded-most, rounded-least}

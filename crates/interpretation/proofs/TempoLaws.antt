@@ -5,13 +5,13 @@ use native.Mathlib.Nat.{pow-succ', one-le-pow, pow-le-pow-right, mul-le-mul, mul
 use native.Mathlib.Numerals.{add-one}
 use native.Mathlib.Omega.{arith}
 use mathlib.Core.List.{List, [], _∷_, _++_}
-use mathlib.Core.Bool.{Bool, true, false, _&&_, cond}
+use mathlib.Core.Bool.{Bool, true, false, _&&_, cond, and-false}
 use lib.Dec.{leb, eqb, eqb→eq}
 use lib.ListN.{length, take, drop, getD}
 use borrow.Author.Tests.{le-leb, lt-leb, leb-true, leb-false}
 use Rattle.slices.specs.Finite.{at}
 use Rattle.slices.specs.Split.{indexOf}
-use Rattle.interpretation.proofs.Lists.{both, never-both}
+use Rattle.slices.proofs.TestLaws.{both}
 use Rattle.interpretation.proofs.DigitLaws.{digit-bounds, number-not, number-is}
 use Rattle.interpretation.specs.Digits.{isDigit, allDigits, decimalOn, decimal}
 use Rattle.interpretation.specs.Number.{numberUpTo}
@@ -124,7 +124,7 @@ no-digit (x ∷ xs) h = absurd (omega arith)
 module _ (whole fraction : List ℕ) where
   pub long-fraction : 9 < length fraction → Notice 14 ≡ tempoFrom whole fraction
   unfolding tempoFrom
-  long-fraction h = rw (lt-leb _ _ h, never-both (allDigits (whole ++ fraction) && leb 1 (length (whole ++ fraction))))
+  long-fraction h = rw (lt-leb _ _ h, and-false (allDigits (whole ++ fraction) && leb 1 (length (whole ++ fraction))))
 
   pub whole-not : {r : Number} → r ≡ numberUpTo 65536 whole → r ≡ Not → Notice 14 ≡ tempoFrom whole fraction
   unfolding tempoFrom
@@ -132,7 +132,7 @@ module _ (whole fraction : List ℕ) where
 
   pub fraction-not : {r : Number} → r ≡ numberUpTo 1000000000 fraction → r ≡ Not → Notice 14 ≡ tempoFrom whole fraction
   unfolding tempoFrom
-  fraction-not e n = rw (digits-append whole fraction, number-not 1000000000 fraction e n, never-both (allDigits whole))
+  fraction-not e n = rw (digits-append whole fraction, number-not 1000000000 fraction e n, and-false (allDigits whole))
 
   -- without a digit the number is 0, so that the range refuses it as well
   in-range : allDigits whole ≡ true → allDigits fraction ≡ true → length fraction ≤ 9 → rounded (decimal (whole ++ fraction)) (10 ^ length fraction) ≡ tempoFrom whole fraction

@@ -4,7 +4,7 @@ use Prim.Native.Nat.{ℕ, suc, _+_, _-_, _≤_, _<_}
 use native.Mathlib.Omega.{arith}
 use native.Mathlib.Nat.{add-zero}
 use mathlib.Core.List.{List, [], _∷_}
-use mathlib.Core.Bool.{Bool, true, false, _&&_}
+use mathlib.Core.Bool.{Bool, true, false, and-false}
 use lib.Dec.{leb, eqb}
 use lib.ListN.{length, take, drop, getD, length-drop}
 use lib.Seq.{drop-cons, getD-drop, getD-take, length-take-le}
@@ -21,11 +21,7 @@ use Rattle.items.proofs.RunLaws.{At, next-at, next-is, Run, run-start, 
 -- ---- which bytes stand in one run
 above : (b low high : ℕ) → high < b → within low high b ≡ false
 unfolding within
-above b low high h = rw (lt-leb b high h) (go (leb low b))
-  where
-    go : (t : Bool) → (t && false) ≡ false
-    go true = refl
-    go false = refl
+above b low high h = rw (lt-leb b high h) (and-false (leb low b))
 
 pub letter-no-digit : (b : ℕ) → isLetter b ≡ true → isDigit b ≡ false
 unfolding isLetter

@@ -4,7 +4,6 @@ ghost use mathlib.Core.Path.{_≡_};
 ghost use mathlib.Core.Bool.{true};
 ghost use Prim.Native.Nat.{_+_, _<_};
 ghost use lib.ListN.{length, getD, drop};
-ghost use Rattle.pitch.specs.Pitch.{within};
 ghost use Rattle.items.specs.Items.{isDigit, isLetter, joins, itemOf, first, nextItem};
 
 pub enum Item {
@@ -20,39 +19,29 @@ pub struct Next {
     pub end: usize,
 }
 
-// Whether a byte is from low to high.
-fn within(low: u8, high: u8, b: u8) -> bool
-    ensures { λ r. ⌜ r ≡ within low high b ⌝ }
-{
-    if b < low {
-        return false;
-    }
-    b <= high
-}
-
 // Whether a byte is a digit.
 pub fn is_digit(b: u8) -> bool
     ensures { λ r. ⌜ r ≡ isDigit b ⌝ }
 {
-    within(b'0', b'9', b)
+    pitch::within(b'0', b'9', b)
 }
 
 // Whether a byte is a letter of a step.
 pub fn is_letter(b: u8) -> bool
     ensures { λ r. ⌜ r ≡ isLetter b ⌝ }
 {
-    if within(b'a', b'g', b) {
+    if pitch::within(b'a', b'g', b) {
         return true;
     }
-    within(b'A', b'G', b)
+    pitch::within(b'A', b'G', b)
 }
 
 // Whether a and the byte b right behind it stand in one run.
 fn joins(a: u8, b: u8) -> bool
     ensures { λ r. ⌜ r ≡ joins a b ⌝ }
 {
-    if within(b'0', b'9', a) {
-        return within(b'0', b'9', b);
+    if pitch::within(b'0', b'9', a) {
+        return pitch::within(b'0', b'9', b);
     }
     if is_letter(a) {
         return b == a;
@@ -119,7 +108,7 @@ fn item_of(run: &[u8]) -> Item
         return Item::Blank;
     }
     let b = run[0];
-    if within(b'0', b'9', b) {
+    if pitch::within(b'0', b'9', b) {
         return Item::Digits(duration::kern_duration(run));
     }
     if is_letter(b) {

@@ -3,47 +3,15 @@ use mathlib.Core.Path.{_≡_, refl, sym, ap, _∙_}
 use Prim.Native.Nat.{ℕ, _*_}
 use native.Mathlib.Omega.{arith}
 use mathlib.Core.List.{List, [], _∷_, _++_, append-nil}
-use mathlib.Core.Bool.{Bool, true, false}
 use lib.ListN.{length}
-use Rattle.pitch.specs.Pitch.{pitchOf, twosComplement}
-use Rattle.duration.specs.declared.Value.{Value}
+use Rattle.pitch.specs.Pitch.{twosComplement}
 use Rattle.items.specs.declared.Item.{Item}
 use Rattle.items.specs.declared.Item.the-variants.{Digits, Letters, Blank, Mark}
-use Rattle.token.specs.Token.{fits, passes, given, heard, signifiers}
+use Rattle.token.specs.Token.{given, heard}
 use Rattle.token.specs.declared.pitches.Tone.{Tone}
 use Rattle.token.specs.declared.pitches.Sound.{Sound}
 use Rattle.token.specs.declared.pitches.Sound.the-variants.{Silence, Of}
 use Rattle.lists.specs.Lists.{toneBytes, soundBytes, endedBy, soundAfter}
-
--- ---- signifiers, by the tests of the code
-pub no-signifiers : (s : Bool) → signifiers s [] ≡ []
-unfolding signifiers
-no-signifiers s = refl
-
-module _ (s : Bool) where
-  pub past-digits : (v : Value) (is : List Item) → signifiers s (Digits v ∷ is) ≡ signifiers s is
-  unfolding signifiers
-  past-digits v is = refl
-
-  pub past-pitch : (c n : ℕ) {t : Bool} → t ≡ fits s (pitchOf c n) → t ≡ true → (is : List Item) → signifiers s (Letters c n ∷ is) ≡ signifiers true is
-  unfolding signifiers
-  past-pitch c n p h is = rw (sym p ∙ h)
-
-  pub past-run : (c n : ℕ) {t : Bool} → t ≡ fits s (pitchOf c n) → t ≡ false → (is : List Item) → signifiers s (Letters c n ∷ is) ≡ c ∷ signifiers s is
-  unfolding signifiers
-  past-run c n p h is = rw (sym p ∙ h)
-
-  pub past-blank : (is : List Item) → signifiers s (Blank ∷ is) ≡ signifiers false is
-  unfolding signifiers
-  past-blank is = refl
-
-  pub past-known : (b : ℕ) {t : Bool} → t ≡ passes s b → t ≡ true → (is : List Item) → signifiers s (Mark b ∷ is) ≡ signifiers s is
-  unfolding signifiers
-  past-known b p h is = rw (sym p ∙ h)
-
-  pub past-odd : (b : ℕ) {t : Bool} → t ≡ passes s b → t ≡ false → (is : List Item) → signifiers s (Mark b ∷ is) ≡ b ∷ signifiers s is
-  unfolding signifiers
-  past-odd b p h is = rw (sym p ∙ h)
 
 -- ---- pitches
 tones-append : (a b : List Tone) → toneBytes (a ++ b) ≡ toneBytes a ++ toneBytes b

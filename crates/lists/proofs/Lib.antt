@@ -3,4 +3,4 @@ pub mod FillLaws
 pub mod ItemLaws
 pub mod CountLaws
 pub mod ByteLaws
-pub mod OddLaws
+pub mod UnknownLaws

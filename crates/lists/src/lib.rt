@@ -90,8 +90,8 @@ pub fn fill_signifiers(out: &mut [u8], token: &[u8])
             i += 1;
             continue;
         }
-        if scan::is_odd(b) {
-            let end = scan::odd_end(token, i);
+        if scan::is_unknown(b) {
+            let end = scan::unknown_end(token, i);
             k = put_run(out, k, &token[i..end]);
             i = end;
             continue;
@@ -205,8 +205,8 @@ pub fn fill_pitches(out: &mut [u8], token: &[u8])
             i += 1;
             continue;
         }
-        if scan::is_odd(b) {
-            i = scan::odd_end(token, i);
+        if scan::is_unknown(b) {
+            i = scan::unknown_end(token, i);
             continue;
         }
         sound = sign(sound, b);

@@ -4,7 +4,7 @@ use mathlib.Core.Bool.{Bool, true, false, _&&_, Bool·beq}
 use mathlib.Core.List.{List, [], _∷_}
 use lib.Dec.{T, eqb}
 use Rattle.slices.specs.Compare.{beginsWith}
-use Rattle.notation.specs.Search.{contains, containsPair, trimStart}
+use Rattle.notation.specs.Bytes.{contains, containsPair, trimStart}
 use Rattle.notation.specs.Beam.{lettersOf, beamed, beamNumber}
 use Rattle.notation.specs.Barline.{rightOf, leftOf, barlinesOf, barlineNumber}
 use Rattle.notation.specs.declared.beam.Beamed.{Beamed}

@@ -1,3 +1,3 @@
 -- Laws about the definitions of specs/, for the proofs here and above. No contract cites these.
-pub mod SearchLaws
+pub mod ByteLaws
 pub mod Examples

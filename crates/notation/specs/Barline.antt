@@ -3,7 +3,7 @@ use Prim.Native.Nat.{ℕ}
 use mathlib.Core.List.{List, [], _∷_}
 use mathlib.Core.Bool.{cond, _||_}
 use Rattle.slices.specs.Compare.{beginsWith}
-use Rattle.notation.specs.Search.{contains, containsPair, trimStart}
+use Rattle.notation.specs.Bytes.{contains, containsPair, trimStart}
 use Rattle.notation.specs.declared.barline.Barline.{Barline}
 use Rattle.notation.specs.declared.barline.Barline.the-variants.{Normal, Double, Final, RepeatStart, RepeatEnd, Invisible}
 use Rattle.notation.specs.declared.barline.Barlines.{Barlines}

@@ -2,7 +2,7 @@
 use Prim.Native.Nat.{ℕ}
 use mathlib.Core.List.{List}
 use mathlib.Core.Bool.{Bool, true, false}
-use Rattle.notation.specs.Search.{contains}
+use Rattle.notation.specs.Bytes.{contains}
 use Rattle.notation.specs.declared.beam.Mark.{Mark}
 use Rattle.notation.specs.declared.beam.Mark.the-variants.{None, Begin, Continue, End}
 use Rattle.notation.specs.declared.beam.Beamed.{Beamed}

@@ -1,4 +1,4 @@
 -- Beams and barlines, and the searches that they are read by.
-pub mod Search
+pub mod Bytes
 pub mod Beam
 pub mod Barline

@@ -1,5 +1,5 @@
 // The barlines that a token of a barline record gives.
-use crate::search;
+use crate::bytes;
 ghost use mathlib.Core.Path.{_≡_};
 ghost use Rattle.notation.specs.Barline.{barlineNumber, rightOf, leftOf, barlinesOf};
 
@@ -36,19 +36,19 @@ pub fn barline_number(b: Barline) -> u8
 fn right_barline(token: &[u8], body: &[u8]) -> Barline
     ensures { λ r. ⌜ r ≡ rightOf (now (token .entry)) (now (body .entry)) ⌝ }
 {
-    if search::contains_pair(body, b':', b'|') {
+    if bytes::contains_pair(body, b':', b'|') {
         return Barline::RepeatEnd;
     }
-    if search::contains_pair(body, b':', b'!') {
+    if bytes::contains_pair(body, b':', b'!') {
         return Barline::RepeatEnd;
     }
     if slices::begins(token, b"==") {
         return Barline::Final;
     }
-    if search::contains_pair(body, b'|', b'|') {
+    if bytes::contains_pair(body, b'|', b'|') {
         return Barline::Double;
     }
-    if search::contains(body, b'-') {
+    if bytes::contains(body, b'-') {
         return Barline::Invisible;
     }
     Barline::Normal
@@ -58,10 +58,10 @@ fn right_barline(token: &[u8], body: &[u8]) -> Barline
 fn left_barline(body: &[u8]) -> Barline
     ensures { λ r. ⌜ r ≡ leftOf (now (body .entry)) ⌝ }
 {
-    if search::contains_pair(body, b'|', b':') {
+    if bytes::contains_pair(body, b'|', b':') {
         return Barline::RepeatStart;
     }
-    if search::contains_pair(body, b'!', b':') {
+    if bytes::contains_pair(body, b'!', b':') {
         return Barline::RepeatStart;
     }
     Barline::Normal
@@ -71,7 +71,7 @@ fn left_barline(body: &[u8]) -> Barline
 pub fn kern_barline(token: &[u8]) -> Barlines
     ensures { λ r. ⌜ r ≡ barlinesOf (now (token .entry)) ⌝ }
 {
-    let body = search::trim_start(token, b'=');
+    let body = bytes::trim_start(token, b'=');
     let right = right_barline(token, body);
     let left = left_barline(body);
     Barlines { right, left }

@@ -1,4 +1,4 @@
-// Beams and barlines, and the searches that they are read by.
+// Beams and barlines, and the bytes that they are read by.
 pub mod barline;
 pub mod beam;
-pub mod search;
+pub mod bytes;

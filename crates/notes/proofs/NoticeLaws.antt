@@ -1,11 +1,12 @@
 -- Notices of a token as the code leaves them.
 use mathlib.Core.Path.{_≡_, refl, sym, ap, _∙_}
 use Prim.Native.Nat.{ℕ, _≤_}
-use native.Mathlib.Omega.{arith}
 use mathlib.Core.List.{List, [], _∷_}
 use mathlib.Core.Bool.{Bool, true, false}
 use lib.ListN.{length}
 use borrow.Author.Tests.{le-ltb}
+use Rattle.slices.proofs.TestLaws.{clash}
+use Rattle.state.proofs.CountLaws.{same}
 use Rattle.token.specs.Outcome.{reported}
 use Rattle.sheet.specs.declared.Notice.{Notice}
 use Rattle.sheet.specs.declared.Span.{Span}
@@ -17,15 +18,9 @@ use Rattle.state.specs.Lay.{laid, behind}
 use Rattle.state.specs.View.{stateOf, Landed, going, landed}
 use Rattle.state.proofs.ViewLaws.{landed-behind}
 use Rattle.writing.specs.Kept.{noticeOf, signifiersNotice, keptRecords, afterKept}
-use Rattle.writing.proofs.KeptLaws.{kept-at, kept-same, kept-state, kept-records}
+use Rattle.writing.proofs.KeptLaws.{kept-at, kept-same, kept-notes, kept-state, kept-records}
 use Rattle.notes.specs.declared.Spot.{Spot}
-use Rattle.notes.specs.Spot.{tokenAt, Same, Noticed, inferredNotice}
-
-pub same : (t : Tally) → Same t t
-same t = record { active = refl; parts = refl; bars = refl }
-
-pub same-same : {t u w : Tally} → Same t u → Same u w → Same t w
-same-same p q = record { active = q .active ∙ p .active; parts = q .parts ∙ p .parts; bars = q .bars ∙ p .bars }
+use Rattle.notes.specs.Spot.{tokenAt, Noticed, inferredNotice}
 
 -- nothing is noticed
 pub noticed-none : (t : Tally) (old : List ℕ) (f : State → Result) → ((st : State) → f st ≡ quiet st) → Noticed t t old old f
@@ -45,8 +40,8 @@ noticed-kept t n bytes old f e = record {
   state = λ cells parts. ap (λ (r : Result). r .state) (e (stateOf cells parts t)) ∙ sym (kept-state cells parts t n bytes);
   at = λ cells parts. kept-at t n bytes ∙ ap (behind (t .at)) (recorded cells parts);
   out = λ cells parts. ap (laid old (t .at)) (recorded cells parts);
-  same = record { active = kept-same t n bytes .active; parts = kept-same t n bytes .parts; bars = kept-same t n bytes .bars };
-  notes = kept-same t n bytes .notes;
+  same = kept-same t n bytes;
+  notes = kept-notes t n bytes;
 }
   where
     recorded : (cells parts : List ℕ) → keptRecords t n bytes ≡ f (stateOf cells parts t) .records
@@ -75,7 +70,7 @@ pub signify-full : (t : Tally) (old bs : List ℕ) (k j : ℕ) → 1024 ≤ t .n
 unfolding laid keptRecords afterKept
 signify-full t old [] k j h = noticed-none t old (notes.signify [] k j) (λ st. refl)
 signify-full t old (b ∷ bs) k j h =
-    noticed-by t (signifiersNotice k j (b ∷ bs)) (b ∷ bs) old (notes.signify (b ∷ bs) k j) (λ st. signify-some (b ∷ bs) k j (λ e. let z : _≡_ {A = ℕ} 0 1 = cc in omega arith) st)
+    noticed-by t (signifiersNotice k j (b ∷ bs)) (b ∷ bs) old (notes.signify (b ∷ bs) k j) (λ st. signify-some (b ∷ bs) k j (λ e. clash cc) st)
     (sym (rw (le-ltb (t .notices) 1024 h))) (sym (rw (le-ltb (t .notices) 1024 h)))
 
 pub signify-as : (token bs : List ℕ) (k j : ℕ) → reported token ≡ bs → (length bs ≡ 0 → ⊥) → (st : State)

@@ -10,7 +10,7 @@ use Rattle.token.proofs.AccountLaws.{Listed}
 use Rattle.plain.specs.Plain.{PlainToken}
 use Rattle.plain.specs.declared.Plain.{Plain}
 use Rattle.writing.specs.Kept.{Alone}
-use Rattle.notes.proofs.ListLaws.{heard-lists}
+use Rattle.token.proofs.AccountLaws.{heard-lists}
 
 module _ {token : List ℕ} {p : Plain} (plain : PlainToken token p) where
   pub plain-lists : Listed token (p .note)

@@ -5,6 +5,8 @@ use mathlib.Core.List.{List, [], _∷_, _++_}
 use mathlib.Core.Bool.{Bool, true, false}
 use lib.ListN.{length, set}
 use borrow.Author.Tests.{lt-ltb, le-ltb}
+use Rattle.state.proofs.CountLaws.{same-same}
+use Rattle.state.specs.Counts.{Same}
 use Rattle.lines.specs.Tokens.{isNull}
 use Rattle.duration.specs.declared.Value.{Value}
 use Rattle.notation.specs.Beam.{beamNumber, lettersOf}
@@ -33,9 +35,9 @@ use Rattle.plain.specs.declared.Plain.{Plain}
 use Rattle.notes.specs.declared.Spot.{Spot}
 use Rattle.notes.specs.Beam.{beamBy, soundedBy}
 use Rattle.notes.specs.Plain.{partBefore}
-use Rattle.notes.specs.Spot.{tokenAt, tokenStep, noteAt, withNote, Same, Kept, Noticed, inferredNotice}
+use Rattle.notes.specs.Spot.{tokenAt, tokenStep, noteAt, withNote, Kept, Noticed, inferredNotice}
 use Rattle.notes.proofs.BeamLaws.{sounded-by, beam-by}
-use Rattle.notes.proofs.NoticeLaws.{same-same, noticed-none, signify-none, signify-full, noticed-goes, noticed-behind}
+use Rattle.notes.proofs.NoticeLaws.{noticed-none, signify-none, signify-full, noticed-goes, noticed-behind}
 
 -- ---- the note
 pub note-refused : (p v k j at : ℕ) (token : List ℕ) (n : Note) (st : State) (out : List ℕ) (place : ℕ) → 100000 ≤ st .notes
@@ -159,14 +161,14 @@ module _ (cells parts token : List ℕ) (inferred : Value) (s : Spot) {t u : Tal
       token-step (e
       ∙ ap (λ (x : Outcome). landed (notes.byOutcome x (s .part) (s .voice) (s .line) (s .column) (tokenAt s token) (stateOf cells parts u)) new (u .at)) (sym q))
 
--- a token of the usual shape comes to its note, whatever length its peers give; of odd marks no notice is kept any more
+-- a token of the usual shape comes to its note, whatever length its peers give; of unknown marks no notice is kept any more
 pub plain-step : (cells parts token : List ℕ) (inferred : Value) (s : Spot) (t : Tally) (old : List ℕ) {p : Plain} {l : Landed} → PlainToken token p
-    → (p .odd ≡ true → 1024 ≤ t .notices)
+    → (p .unknown ≡ true → 1024 ≤ t .notices)
     → l ≡ landed (notes.addNote (s .part) (s .voice) (s .line) (s .column) (tokenAt s token) (p .note) (stateOf cells parts t)) old (t .at)
     → l ≡ landed (tokenStep token inferred s (stateOf cells parts t)) old (t .at)
 plain-step cells parts token inferred s t old {p} plain full e =
-    heard-step cells parts token inferred s refl (plain .sounds) refl (unkept (p .odd) refl) refl (plain .outcome inferred) e
+    heard-step cells parts token inferred s refl (plain .sounds) refl (unkept (p .unknown) refl) refl (plain .outcome inferred) e
   where
-    unkept : (b : Bool) → p .odd ≡ b → Noticed t t old old (notes.signify (reported token) (s .line) (s .column))
+    unkept : (b : Bool) → p .unknown ≡ b → Noticed t t old old (notes.signify (reported token) (s .line) (s .column))
     unkept true q = signify-full t old (reported token) (s .line) (s .column) (full q)
     unkept false q = noticed-none t old (notes.signify (reported token) (s .line) (s .column)) (λ st. signify-none (reported token) (s .line) (s .column) (ap length (plain .reports q)) st)

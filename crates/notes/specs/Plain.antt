@@ -25,7 +25,7 @@ plainRecord token p s t parts =
     noteRecord (noteAt (p .note) s (t .bars) (beamNumber (beamBy (partBefore s t parts) (s .voice) (p .starts) (p .ends) .mark))) token
 
 -- it stands at a place, and its part has the voice's beam
-pub record Sung (token : List ℕ) (p : Plain) (s : Spot) (t : Tally) (at : ℕ) (parts out parts′ out′ : List ℕ) (r : ℕ) : Type 0 where
+pub record PlainWritten (token : List ℕ) (p : Plain) (s : Spot) (t : Tally) (at : ℕ) (parts out parts′ out′ : List ℕ) (r : ℕ) : Type 0 where
   pub sounds : partsOf (t .parts) parts′ ≡ set (partsOf (t .parts) parts) (s .part) (soundedBy (partBefore s t parts) (s .voice) (p .starts) (p .ends))
   pub lays : out′ ≡ laid out at (plainRecord token p s t parts ∷ [])
   pub ends : r ≡ behind at (plainRecord token p s t parts ∷ [])

@@ -4,6 +4,7 @@ use Prim.Native.Nat.{ℕ, _+_, _-_, _/_, _%_, _^_, _≤_, _<_}
 use mathlib.Core.Bool.{Bool, cond}
 use mathlib.Core.List.{List}
 use lib.ListN.{length}
+use Rattle.state.specs.Counts.{Same}
 use Rattle.lines.specs.Tokens.{isNull}
 use Rattle.duration.specs.declared.Value.{Value}
 use Rattle.token.specs.Scan.{scanOf}
@@ -69,11 +70,6 @@ withNote t at = record {
 }
 
 -- spines, parts and bars are as many as before
-pub record Same (t u : Tally) : Type 0 where
-  pub active : u .active ≡ t .active
-  pub parts : u .parts ≡ t .parts
-  pub bars : u .bars ≡ t .bars
-
 abbrev pub Kept : Tally → StepTold → Type 0
 Kept t (Refused n l f) = Unit {0}
 Kept t (Goes u) = Same t u

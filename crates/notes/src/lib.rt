@@ -24,7 +24,7 @@ ghost use Rattle.reading.specs.Notes.{bit, flagsOf, signify, addNote};
 ghost use Rattle.state.specs.Parts.{partOf, partsOf};
 ghost use Rattle.state.specs.View.{stateOf, landed, told};
 ghost use Rattle.notes.specs.Beam.{beamBy, soundedBy};
-ghost use Rattle.notes.specs.Plain.{Sung};
+ghost use Rattle.notes.specs.Plain.{PlainWritten};
 ghost use Rattle.notes.specs.Spot.{tokenAt, tokenStep, noteAt, withNote, Kept, Noticed, inferredNotice, Sited};
 
 // Where a token stands: its part and voice, line and column from 1, and its offset in the text.
@@ -272,7 +272,7 @@ pub fn write_plain(
     out: &mut [u8],
 ) -> usize
     requires { ⌜ Sited (now token) (now parts) spot tally × PlainToken (now token) p ⌝ }
-    ensures { λ r. ⌜ Sung (now (token .entry)) p spot tally at (now (parts .entry)) (now (out .entry)) (now (parts .exit)) (now (out .exit)) r ⌝ }
+    ensures { λ r. ⌜ PlainWritten (now (token .entry)) p spot tally at (now (parts .entry)) (now (out .entry)) (now (parts .exit)) (now (out .exit)) r ⌝ }
 {
     let beam = sound_part(parts, tally.parts, spot.part, spot.voice, p.starts, p.ends);
     let note = note_at(p.note, spot, tally.bars, beam);

@@ -11,7 +11,7 @@ use Rattle.token.specs.Token.{badLength, upToBlank, firstSub, isSilent, givenIn
 use Rattle.paths.specs.Token.{pathToken}
 use Rattle.paths.specs.Row.{branchFrom, advance}
 use Rattle.paths.specs.Voices.{stepRow, voiceRow, giveVoices, holds, lowest, withVoice}
-use Rattle.notation.specs.Search.{contains}
+use Rattle.notation.specs.Bytes.{contains}
 use Rattle.interpretation.specs.Interpretation.{computed}
 use Rattle.paper.specs.Table.{each, table}
 

@@ -7,6 +7,7 @@ use Prim.Native.Nat.{ℕ, zero, suc, _+_, _≤_, _<_}
 use native.Mathlib.Omega.{arith}
 use native.Mathlib.Decide.{ℕ-discrete, decLe}
 use lib.Dec.{leb}
+use Rattle.slices.proofs.TestLaws.{clash}
 use Rattle.paths.specs.Row.{Spine, line, branch, outside}
 use Rattle.paths.specs.Text.{spineAt}
 use Rattle.paths.specs.Voices.{withVoice}
@@ -66,13 +67,13 @@ gets-shift d d′ s x row r j p k (w, e, g) = (w, e, λ u l. had-shift d d′ s 
 
 pub branch-gets : (held : ℕ → ℕ → Bool) (d : ℕ → ℕ → ℕ) (row r : List Spine) → Fair held d row → Voiced held row r → (j p : ℕ) → spineAt row j ≡ branch p →
     Gets d row r j p
-branch-gets held d [] r f g j p b = absurd (let z : _≡_ {A = ℕ} 0 1 = cc in omega arith)
+branch-gets held d [] r f g j p b = clash cc
 branch-gets held d (s ∷ row) [] f g j p b = absurd g
-branch-gets held d (line q v ∷ row) (x ∷ r) f g zero p b = absurd (let z : _≡_ {A = ℕ} 0 1 = cc in omega arith)
+branch-gets held d (line q v ∷ row) (x ∷ r) f g zero p b = clash cc
 branch-gets held d (line q v ∷ row) (x ∷ r) f g (suc j) p b =
     gets-shift d (plus d (line q v)) (line q v) x row r j p (λ u h. rw (g .0) (plus-had d (line q v) p u h))
     (branch-gets held (plus d (line q v)) row r (fair-line q v f) (g .1) j p b)
-branch-gets held d (outside ∷ row) (x ∷ r) f g zero p b = absurd (let z : _≡_ {A = ℕ} 0 1 = cc in omega arith)
+branch-gets held d (outside ∷ row) (x ∷ r) f g zero p b = clash cc
 branch-gets held d (outside ∷ row) (x ∷ r) f g (suc j) p b = gets-shift d d outside x row r j p (λ u h. inl h) (branch-gets held d row r (fair-outside f) (g .1) j p b)
 branch-gets held d (branch q ∷ row) (x ∷ r) f (w, e, i, g) zero p b = (w, (cc), λ u l. go u (decLe 1 (d p u)) (here u l))
   where
@@ -137,10 +138,10 @@ unfolding total rivalsIn
 first-lacks held d [] q f g = absurd g
 first-lacks held d (line p v ∷ row) q f g =
     first-shift (sum d) (sum (plus d (line p v))) (line p v) row q (λ k. omega (arith, sum-line d p v (omega (arith, f .low)) k))
-    (λ k b. absurd (let z : _≡_ {A = ℕ} 0 1 = cc in omega arith))
+    (λ k b. clash cc)
     (first-lacks held (plus d (line p v)) row q (fair-line p v f) g)
 first-lacks held d (outside ∷ row) q f g =
-    first-shift (sum d) (sum d) outside row q (λ k. omega arith) (λ k b. absurd (let z : _≡_ {A = ℕ} 0 1 = cc in omega arith))
+    first-shift (sum d) (sum d) outside row q (λ k. omega arith) (λ k b. clash cc)
     (first-lacks held d row q (fair-outside f) g)
 first-lacks held d (branch p ∷ row) q f (inl (e, s)) = subst (FirstLacks (sum d) (branch p ∷ row)) s (record {
   column = 0;
@@ -168,7 +169,7 @@ first-lacks held d (branch p ∷ row) q f (inr (v, e, g)) =
 -- the branch itself isn't among them
 pub rivals-less : (row : List Spine) (p j : ℕ) → spineAt row j ≡ branch p → rivalsIn row p j < total (ofPart p) row
 unfolding rivalsIn total
-rivals-less [] p j b = absurd (let z : _≡_ {A = ℕ} 0 1 = cc in omega arith)
+rivals-less [] p j b = clash cc
 rivals-less (s ∷ row) p zero b = let x : ofPart p s ≡ ofLine p s + 1 = ap (ofPart p) b ∙ go
     ∙ ap (λ (k : Spine). ofLine p k + 1) (sym b) in omega (arith, rivals-zero row p, lines-le row)
   where

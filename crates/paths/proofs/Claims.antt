@@ -10,6 +10,7 @@ use native.Mathlib.Decide.{decLe}
 use lib.Dec.{ltb}
 use lib.ListN.{length}
 use borrow.Author.Tests.{le-leb, lt-ltb}
+use Rattle.slices.proofs.TestLaws.{clash}
 use Rattle.paths.specs.declared.PathToken.{PathToken}
 use Rattle.paths.specs.Record.{Rec, star}
 use Rattle.paths.specs.Row.{Spine, line, branch, outside, branchFrom, nextRow}
@@ -56,19 +57,19 @@ branch-is : (s : Spine) (p : ℕ) → partOf (branchFrom s) ≡ some p → branc
 unfolding branchFrom
 branch-is (line q v) p e = cc
 branch-is (branch q) p e = cc
-branch-is outside p e = absurd (let z : _≡_ {A = ℕ} 0 1 = cc in omega arith)
+branch-is outside p e = clash cc
 
 -- a branch comes from a `*^`, a line from a line
 pick-branch : (row : List Spine) → ((k q : ℕ) → spineAt row k ≢ branch q) → (o : Origin) (q : ℕ) → pick row o ≡ branch q → (k : ℕ) × (o ≡ branchOf k)
 pick-branch row n (from k) q e = absurd (n k q e)
 pick-branch row n (branchOf k) q e = (k, refl)
-pick-branch row n nowhere q e = absurd (let z : _≡_ {A = ℕ} 0 1 = cc in omega arith)
+pick-branch row n nowhere q e = clash cc
 
 no-line : (s : Spine) (p v : ℕ) → branchFrom s ≢ line p v
 unfolding branchFrom
-no-line (line q w) p v e = let z : _≡_ {A = ℕ} 0 1 = cc in omega arith
-no-line (branch q) p v e = let z : _≡_ {A = ℕ} 0 1 = cc in omega arith
-no-line outside p v e = let z : _≡_ {A = ℕ} 0 1 = cc in omega arith
+no-line (line q w) p v e = clash cc
+no-line (branch q) p v e = clash cc
+no-line outside p v e = clash cc
 
 pick-line : (row : List Spine) (o : Origin) (p v : ℕ) → pick row o ≡ line p v → isLine o ≡ true
 pick-line row (from k) p v e = refl

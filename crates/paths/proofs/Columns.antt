@@ -1,6 +1,6 @@
 -- Sums over a row are counts of its columns.
-use mathlib.Core.Path.{_≡_, refl, ap}
-use mathlib.Core.Bool.{Bool, true, false, _&&_, _||_, cond}
+use mathlib.Core.Path.{_≡_, refl, ap, sym}
+use mathlib.Core.Bool.{Bool, true, false, _&&_, _||_, cond, and-true}
 use mathlib.Core.List.{List, [], _∷_}
 use mathlib.Core.Logic.{_≢_}
 use Prim.Native.Nat.{ℕ, zero, suc, _+_}
@@ -107,11 +107,7 @@ rival-count p (s ∷ row) (suc j) =
 
 -- by its origin: of a row that has no branches, only a branch is one
 rival-line : (p j i : ℕ) (s : Spine) → ((q : ℕ) → s ≢ branch q) → isRival p j i s ≡ (isPart p (partOf s) && true)
-rival-line p j i (line q v) n = go (eqb p q)
-  where
-    go : (b : Bool) → b ≡ (b && true)
-    go true = refl
-    go false = refl
+rival-line p j i (line q v) n = sym (and-true (eqb p q))
 rival-line p j i (branch q) n = absurd (n q refl)
 rival-line p j i outside n = refl
 

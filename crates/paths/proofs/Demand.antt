@@ -7,6 +7,7 @@ use mathlib.Core.Option.{some}
 use Prim.Native.Nat.{ℕ, suc, _≤_, _<_}
 use native.Mathlib.Omega.{arith}
 use lib.ListN.{length}
+use Rattle.slices.proofs.TestLaws.{clash}
 use Rattle.paths.specs.declared.PathToken.{PathToken}
 use Rattle.paths.specs.Record.{Rec, star, plain, tokens}
 use Rattle.paths.specs.Row.{Spine, line}
@@ -21,17 +22,17 @@ use Rattle.paths.proofs.Claims.{sound-voiced, sound-below, sound-differ
 -- ---- which outcome a reading is
 
 is-voiceless : (ts : List PathToken) (row : List Spine) (o : Outcome) (q : ℕ) → reading o ≡ refused 8 q → StepIs ts row o → StepIs ts row (voiceless q)
-is-voiceless ts row (next r) q e s = absurd (let z : _≡_ {A = ℕ} 0 1 = cc in omega arith)
+is-voiceless ts row (next r) q e s = clash cc
 is-voiceless ts row (voiceless p) q e s = let y : p ≡ q = cc in subst (λ (k : ℕ). StepIs ts row (voiceless k)) y s
 is-voiceless ts row (wide m) q e s = absurd (let z : _≡_ {A = ℕ} 9 8 = cc in omega arith)
 
 is-wide : (ts : List PathToken) (row : List Spine) (o : Outcome) (f : ℕ) → reading o ≡ refused 9 f → StepIs ts row o → StepIs ts row (wide f)
-is-wide ts row (next r) f e s = absurd (let z : _≡_ {A = ℕ} 0 1 = cc in omega arith)
+is-wide ts row (next r) f e s = clash cc
 is-wide ts row (voiceless p) f e s = absurd (let z : _≡_ {A = ℕ} 8 9 = cc in omega arith)
 is-wide ts row (wide m) f e s = let y : m ≡ f = cc in subst (λ (k : ℕ). StepIs ts row (wide k)) y s
 
 not-6 : (o : Outcome) (f : ℕ) → reading o ≢ refused 6 f
-not-6 (next r) f e = let z : _≡_ {A = ℕ} 0 1 = cc in omega arith
+not-6 (next r) f e = clash cc
 not-6 (voiceless p) f e = let z : _≡_ {A = ℕ} 8 6 = cc in omega arith
 not-6 (wide m) f e = let z : _≡_ {A = ℕ} 9 6 = cc in omega arith
 
@@ -63,7 +64,7 @@ module _ (h : List Bool) (recs : ℕ → Rec) (n : ℕ) (row : List Spine) (e : 
       go : (x : Rec) → recs n ≡ x → tokens x ≡ length row → Takes x row r → (v : ℕ) × (spineAt r j ≡ line p v) × ((u : ℕ) → u < v →
           (i : ℕ) × (spineAt r i ≡ line p u) × (precedes recs n j i ≡ true))
       go (star ts) x l t = given-lowest h recs n row e ts x l r (t .0) j k p o a
-      go (plain m) x l t = absurd (let y : from j ≡ branchOf k = ap (λ (z : Rec). originIn z j) (sym x) ∙ o in let z : _≡_ {A = ℕ} 0 1 = cc in omega arith)
+      go (plain m) x l t = absurd (let y : from j ≡ branchOf k = ap (λ (z : Rec). originIn z j) (sym x) ∙ o in clash cc)
 
   -- ---- the end, and question 6
 
@@ -106,7 +107,7 @@ module _ (h : List Bool) (recs : ℕ → Rec) (n : ℕ) (row : List Spine) (e : 
         go (reached r) f t = f ∙ ap reached (sym (t .2))
         go ended f t = absurd (omega (arith, fits .0, is-held .size))
         go (refused q m) f (y, inl t) = absurd (t .0 (sym (ap tokens x) ∙ fits .1 ∙ sym (is-held .size)))
-        go (refused q m) f (y, inr (ts, z, w, s)) = absurd (let u : _≡_ {A = ℕ} 0 1 = cc in omega arith)
+        go (refused q m) f (y, inr (ts, z, w, s)) = clash cc
 
     -- a star record: what it comes to
     module _ (ts : List PathToken) (x : recs n ≡ star ts) where

@@ -6,6 +6,7 @@ use mathlib.Core.Option.{Option, none, some}
 use Prim.Native.Nat.{ℕ, zero, suc, _+_, _<_}
 use native.Mathlib.Omega.{arith}
 use lib.ListN.{length, getD, List·getD-map}
+use Rattle.slices.proofs.TestLaws.{and-left, and-right}
 use Rattle.paths.specs.declared.PathToken.{PathToken}
 use Rattle.paths.specs.declared.PathToken.the-variants.{Split, Join, Exchange, End, Add, Other}
 use Rattle.paths.specs.Token.{isExchange, isJoin}
@@ -16,7 +17,6 @@ use Rattle.paths.specs.Reference.{Group, remains, splits, joins, exchang
 use Rattle.paths.proofs.Origins.{pick}
 use Rattle.paths.proofs.TraceLaws.{origin-below}
 use Rattle.paths.proofs.StepLaws.{next-at, branch-part}
-use Rattle.slices.proofs.CompareLaws.{and-left, and-right}
 
 not-is : (a : Bool) → not a ≡ true → a ≡ false
 not-is true e = absurd (false≢true e)

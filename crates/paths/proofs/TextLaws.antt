@@ -7,6 +7,7 @@ use Prim.Native.Nat.{ℕ, zero, suc, _+_, _≤_, _<_, min}
 use native.Mathlib.Omega.{arith}
 use native.Mathlib.Decide.{ℕ-discrete}
 use lib.ListN.{length, getD}
+use Rattle.slices.proofs.TestLaws.{clash}
 use Rattle.paths.specs.Record.{Rec}
 use Rattle.paths.specs.Row.{Spine, line}
 use Rattle.paths.specs.Trace.{originIn, columnOf, trace, kernsBefore, headerPart, part, columns, widthIn}
@@ -68,10 +69,10 @@ header-part h k = let e : 0 + kernsBefore h k ≡ kernsBefore h k = omega arith 
 
 pub header-voice : (h : List Bool) (n j p v : ℕ) → spineAt (headerFrom n h) j ≡ line p v → v ≡ 0
 unfolding headerFrom
-header-voice [] n j p v e = absurd (let z : _≡_ {A = ℕ} 0 1 = cc in omega arith)
+header-voice [] n j p v e = clash cc
 header-voice (true ∷ h) n zero p v e = cc
 header-voice (true ∷ h) n (suc j) p v e = header-voice h (suc n) j p v e
-header-voice (false ∷ h) n zero p v e = absurd (let z : _≡_ {A = ℕ} 0 1 = cc in omega arith)
+header-voice (false ∷ h) n zero p v e = clash cc
 header-voice (false ∷ h) n (suc j) p v e = header-voice h n j p v e
 
 -- ---- every text

@@ -1,6 +1,6 @@
 // The path tokens: what a token of a record begun by `*` does to its spine.
 ghost use mathlib.Core.Path.{_≡_};
-ghost use Rattle.paths.specs.Token.{pathToken};
+ghost use Rattle.paths.specs.Token.{pathToken, isExchange};
 
 // `*^`, `*v`, `*x`, `*-`, `*+`, and any other token.
 pub enum PathToken {
@@ -29,5 +29,19 @@ pub fn path_token(token: &[u8]) -> PathToken
         b'-' => PathToken::End,
         b'+' => PathToken::Add,
         _ => PathToken::Other,
+    }
+}
+
+// Whether a token is `*x`.
+pub fn is_exchange(t: PathToken) -> bool
+    ensures { λ r. ⌜ r ≡ isExchange t ⌝ }
+{
+    match t {
+        PathToken::Exchange => true,
+        PathToken::Split => false,
+        PathToken::Join => false,
+        PathToken::End => false,
+        PathToken::Add => false,
+        PathToken::Other => false,
     }
 }

@@ -15,7 +15,7 @@ use Rattle.slices.proofs.CompareLaws.{same-is}
 use Rattle.duration.specs.Duration.{durationOf}
 use Rattle.duration.specs.declared.Value.{Value}
 use Rattle.duration.specs.declared.Value.the-variants.{Missing, Plain, Tuplet}
-use Rattle.notation.specs.Search.{contains}
+use Rattle.notation.specs.Bytes.{contains}
 use Rattle.items.specs.Items.{isDigit}
 use Rattle.peers.specs.Peers.{leading, forbids, ifValue, offerOf, Offered}
 use Rattle.peers.proofs.OfferLaws.{leading-prefix}

@@ -7,7 +7,7 @@ use Rattle.slices.specs.Ascii.{ascii}
 use Rattle.slices.specs.Compare.{sameBytes}
 use Rattle.duration.specs.Duration.{digits, numberFrom, exponentOf, gcdIn, written, writtenAt, counts, durationOf}
 use Rattle.pitch.specs.Pitch.{within}
-use Rattle.notation.specs.Search.{contains, trimStart}
+use Rattle.notation.specs.Bytes.{contains, trimStart}
 use Rattle.items.specs.Items.{isLetter}
 use Rattle.peers.specs.Peers.{onlySigns, isBare, leading, forbids, offerOf, peersFrom, allOffer, uniform, peerReciprocal}
 

@@ -12,7 +12,7 @@ use borrow.Author.Tests.{eq-eqb, ne-eqb}
 use Rattle.duration.specs.Duration.{durationOf}
 use Rattle.duration.specs.declared.Value.{Value}
 use Rattle.duration.specs.declared.Value.the-variants.{Missing, Plain, Tuplet}
-use Rattle.notation.specs.Search.{contains, trimStart}
+use Rattle.notation.specs.Bytes.{contains, trimStart}
 use Rattle.items.specs.Items.{isDigit, isLetter, joins, itemOf, more, first, nextItem}
 use Rattle.items.specs.declared.Item.{Item}
 use Rattle.items.specs.declared.Item.the-variants.{Digits, Letters, Blank, Mark}

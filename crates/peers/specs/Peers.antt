@@ -11,7 +11,7 @@ use Rattle.lines.specs.Tokens.{tokensOf}
 use Rattle.duration.specs.Duration.{durationOf}
 use Rattle.duration.specs.declared.Value.{Value}
 use Rattle.duration.specs.declared.Value.the-variants.{Missing, Plain, Tuplet}
-use Rattle.notation.specs.Search.{contains, trimStart}
+use Rattle.notation.specs.Bytes.{contains, trimStart}
 use Rattle.items.specs.Items.{isDigit, isLetter}
 use Rattle.token.specs.Token.{signs}
 use Rattle.peers.specs.declared.Peer.{Peer}

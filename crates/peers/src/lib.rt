@@ -49,7 +49,7 @@ pub fn is_bare(token: &[u8]) -> bool
     }
     let c = token[0];
     if items::is_letter(c) {
-        let rest = notation::search::trim_start(token, c);
+        let rest = notation::bytes::trim_start(token, c);
         return only_signs(rest);
     }
     false

@@ -8,7 +8,7 @@ pub enum Pitch {
 }
 
 // Whether a byte is from low to high.
-fn within(low: u8, high: u8, b: u8) -> bool
+pub fn within(low: u8, high: u8, b: u8) -> bool
     ensures { λ r. ⌜ r ≡ within low high b ⌝ }
 {
     if b < low {

@@ -8,7 +8,8 @@ use lib.Dec.{eqb, ltb}
 use lib.ListN.{length}
 use borrow.Author.Tests.{not-true}
 use Rattle.slices.specs.Ascii.{ascii}
-use Rattle.notation.specs.Search.{contains}
+use Rattle.slices.proofs.TestLaws.{and-left, and-right}
+use Rattle.notation.specs.Bytes.{contains}
 use Rattle.pitch.specs.Pitch.{alteredBy}
 use Rattle.duration.specs.declared.Value.{Value}
 use Rattle.items.specs.declared.Item.{Item}
@@ -17,10 +18,9 @@ use Rattle.token.specs.Token.{badLength, upToBlank, firstSub, isSilent, givenIn
 use Rattle.token.specs.declared.pitches.Tone.{Tone}
 use Rattle.token.specs.declared.pitches.Sound.the-variants.{Silence, Of}
 use Rattle.token.specs.declared.scan.Given.the-variants.{Length}
-use Rattle.plain.specs.Usual.{oddBytes, markBytes, allIn, carried, Said, saidBy}
+use Rattle.plain.specs.Usual.{unknownBytes, markBytes, allIn, carried, Said, saidBy}
 use Rattle.plain.proofs.ByteLaws.{each, among, or-left, or-right, or-only, said-still}
 use Rattle.plain.proofs.ItemLaws.{marked}
-use Rattle.slices.proofs.CompareLaws.{and-left, and-right}
 
 module _ (test : ℕ → Bool) (x : ℕ) (xs : List ℕ) (e : each test (x ∷ xs) ≡ true) where
   pub each-head : test x ≡ true
@@ -152,7 +152,7 @@ pub record Says (fresh s : Said) (bs : List ℕ) : Type 0 where
   pub starts : s .starts ≡ (contains 76 bs || fresh .starts)
   pub ends : s .ends ≡ (contains 74 bs || fresh .ends)
   pub articulations : s .articulations ≡ length (articulationsIn bs) + fresh .articulations
-  pub odd : s .odd ≡ (anyOf oddBytes bs || fresh .odd)
+  pub unknown : s .unknown ≡ (anyOf unknownBytes bs || fresh .unknown)
 
 turn : (a b c : Bool) → (b || (a || c)) ≡ (a || b || c)
 turn true true c = refl
@@ -166,7 +166,7 @@ one-more false n a l = refl
 pub says : (s : Said) (bs : List ℕ) → Says s (carried saidBy s bs) bs
 unfolding carried anyOf contains articulationsIn
 says s [] =
-    record { ties = refl; tied = refl; slurs = refl; slurred = refl; starts = refl; ends = refl; articulations = omega arith; odd = refl }
+    record { ties = refl; tied = refl; slurs = refl; slurred = refl; starts = refl; ends = refl; articulations = omega arith; unknown = refl }
 says s (b ∷ bs) =
     let e = says (saidBy s b) bs in
     record {
@@ -177,7 +177,7 @@ says s (b ∷ bs) =
       starts = e .starts ∙ turn (eqb b 76) (contains 76 bs) (s .starts);
       ends = e .ends ∙ turn (eqb b 74) (contains 74 bs) (s .ends);
       articulations = e .articulations ∙ one-more (ltb (articulation b) 5) (s .articulations) (articulation b) (articulationsIn bs);
-      odd = e .odd ∙ turn (contains b oddBytes) (anyOf oddBytes bs) (s .odd);
+      unknown = e .unknown ∙ turn (contains b unknownBytes) (anyOf unknownBytes bs) (s .unknown);
     }
 
 -- ---- pitches
@@ -217,21 +217,13 @@ signifiers-marks sounding [] is e = refl
 signifiers-marks sounding (x ∷ xs) is e =
     rw (each-head (passes sounding) x xs e) (signifiers-marks sounding xs is (each-tail (passes sounding) x xs e))
 
--- marks none of which is odd
-pub not-odd : (sounding : Bool) → each (λ x. passes sounding x || contains x oddBytes) markBytes ≡ true → (xs : List ℕ) → allIn markBytes xs ≡ true
-    → anyOf oddBytes xs ≡ false → each (passes sounding) xs ≡ true
+-- marks none of which is unknown
+pub not-unknown : (sounding : Bool) → each (λ x. passes sounding x || contains x unknownBytes) markBytes ≡ true → (xs : List ℕ) → allIn markBytes xs ≡ true
+    → anyOf unknownBytes xs ≡ false → each (passes sounding) xs ≡ true
 unfolding each anyOf allIn
-not-odd sounding w [] m o = refl
-not-odd sounding w (x ∷ xs) m o =
-    let here : contains x oddBytes ≡ false = or-left (contains x oddBytes) (anyOf oddBytes xs) o in
-    let passed : (passes sounding x || contains x oddBytes) ≡ true = among (λ y. passes sounding y || contains y oddBytes) markBytes w x (and-left (contains x markBytes) (allIn markBytes xs) m) in
-    rw (or-only (passes sounding x) (contains x oddBytes) here passed)
-    (not-odd sounding w xs (and-right (contains x markBytes) (allIn markBytes xs) m) (or-right (contains x oddBytes) (anyOf oddBytes xs) o))
-
-pub signifiers-digits : (v : Value) (is : List Item) → signifiers false (Digits v ∷ is) ≡ signifiers false is
-unfolding signifiers
-signifiers-digits v is = refl
-
-pub signifiers-none : (sounding : Bool) → signifiers sounding [] ≡ []
-unfolding signifiers
-signifiers-none sounding = refl
+not-unknown sounding w [] m o = refl
+not-unknown sounding w (x ∷ xs) m o =
+    let here : contains x unknownBytes ≡ false = or-left (contains x unknownBytes) (anyOf unknownBytes xs) o in
+    let passed : (passes sounding x || contains x unknownBytes) ≡ true = among (λ y. passes sounding y || contains y unknownBytes) markBytes w x (and-left (contains x markBytes) (allIn markBytes xs) m) in
+    rw (or-only (passes sounding x) (contains x unknownBytes) here passed)
+    (not-unknown sounding w xs (and-right (contains x markBytes) (allIn markBytes xs) m) (or-right (contains x unknownBytes) (anyOf unknownBytes xs) o))

@@ -1,13 +1,14 @@
 -- The sound of a token with the marks behind it: a rest, or a pitch with its signs.
 use mathlib.Core.Path.{_≡_, refl, sym, ap, _∙_}
 use Prim.Native.Nat.{ℕ, suc}
-use native.Mathlib.Omega.{arith}
 use mathlib.Core.List.{List, [], _∷_, _++_, append-nil, append-assoc}
 use mathlib.Core.Bool.{Bool, true, false, cond, not, _&&_, _||_}
 use lib.Dec.{eqb}
 use lib.ListN.{length}
 use borrow.Author.Tests.{eq-eqb, eqb-true, ne-eqb, not-true}
-use Rattle.notation.specs.Search.{contains}
+use Rattle.slices.proofs.TestLaws.{clash, not-both}
+use Rattle.token.proofs.SignifierLaws.{no-signifiers}
+use Rattle.notation.specs.Bytes.{contains}
 use Rattle.pitch.specs.Pitch.{within, pitchOf, alteredBy}
 use Rattle.pitch.specs.declared.Pitch.{Pitch}
 use Rattle.pitch.specs.declared.Pitch.the-variants.{At}
@@ -18,11 +19,11 @@ use Rattle.token.specs.Token.{badLength, upToBlank, marks, countOf, graceFrom, 
 use Rattle.token.specs.declared.pitches.Tone.{Tone}
 use Rattle.token.specs.declared.pitches.Sound.the-variants.{Silence}
 use Rattle.items.proofs.NextLaws.{letter-no-digit}
-use Rattle.plain.specs.Usual.{oddBytes, markBytes, signBytes, allIn, carried, Said, saidBy, PitchOf, SoundOf, rests, sings}
+use Rattle.plain.specs.Usual.{unknownBytes, markBytes, signBytes, allIn, carried, Said, saidBy, PitchOf, SoundOf, rests, sings}
 use Rattle.plain.proofs.PieceLaws.{carried-append}
-use Rattle.plain.proofs.ByteLaws.{clash, each, each-in}
+use Rattle.plain.proofs.ByteLaws.{each, each-in}
 use Rattle.plain.proofs.ItemLaws.{single, marked, begins, items-marks, items-letters, letter-of, not-letter}
-use Rattle.plain.proofs.AspectLaws.{each-head, each-tail, differs, graceless, natural, bad-marks, bad-letters, bad-none, up-only, up-letters, marks-only, marks-letters, count-none, contains-none, grace-none, still-over, heard-before, heard-behind, natural-over, not-odd, signifiers-marks, signifiers-none}
+use Rattle.plain.proofs.AspectLaws.{each-head, each-tail, differs, graceless, natural, bad-marks, bad-letters, bad-none, up-only, up-letters, marks-only, marks-letters, count-none, contains-none, grace-none, still-over, heard-before, heard-behind, natural-over, not-unknown, signifiers-marks}
 
 -- the sound and the marks of a token, its items, and what is known of them
 pub record Body (bytes : List ℕ) (rest : Bool) (t : Tone) (post : List ℕ) : Type 0 where
@@ -34,7 +35,7 @@ pub record Body (bytes : List ℕ) (rest : Bool) (t : Tone) (post : List ℕ) : 
   pub written : marks body ≡ bs
   pub good : (b : Bool) → badLength true b body ≡ false
   pub tones : heard Silence body ≡ cond rest [] (t ∷ [])
-  pub odd : anyOf oddBytes post ≡ false → signifiers false body ≡ []
+  pub unknown : anyOf unknownBytes post ≡ false → signifiers false body ≡ []
   pub undotted : countOf 46 bs ≡ 0
   pub rests : contains 114 bs ≡ rest
   pub graces : graceFrom 0 bs ≡ 0
@@ -81,7 +82,7 @@ module _ (post : List ℕ) (m : allIn markBytes post ≡ true) where
         written = marks-only (114 ∷ post);
         good = bad-marks true (114 ∷ post) [] (each-in (differs 37) markBytes post refl m) (bad-none true);
         tones = heard-before (114 ∷ post) [];
-        odd = λ o. signifiers-marks false (114 ∷ post) [] (not-odd false refl post m o) ∙ signifiers-none false;
+        unknown = λ o. signifiers-marks false (114 ∷ post) [] (not-unknown false refl post m o) ∙ no-signifiers false;
         undotted = count-empty 46 (114 ∷ post) (each-in (differs 46) markBytes post refl m);
         rests = refl;
         graces = grace-empty (114 ∷ post) (each-in graceless markBytes post refl m);
@@ -98,7 +99,7 @@ others (x ∷ xs) c e = go (eqb x c) refl (λ k. others xs c k) e
   where
     go : (t : Bool) → eqb x c ≡ t → (contains c xs ≡ false → each (differs c) xs ≡ true) → (t || contains c xs) ≡ false
         → (not (eqb x c) && each (differs c) xs) ≡ true
-    go true q later k = absurd (clash refl k)
+    go true q later k = absurd (not-both refl k)
     go false q later k = rw q (later k)
 
 begins-each : (test : ℕ → Bool) (xs : List ℕ) → each (λ x. not (test x)) xs ≡ true → begins test xs ≡ false
@@ -114,7 +115,7 @@ each-copy test c (x ∷ xs) p e =
 
 no-tab : (c : ℕ) → isLetter c ≡ true → differs 9 c ≡ true
 unfolding isLetter within
-no-tab c l = rw (ne-eqb c 9 (λ e. clash (sym (ap isLetter e) ∙ l) refl))
+no-tab c l = rw (ne-eqb c 9 (λ e. not-both (sym (ap isLetter e) ∙ l) refl))
 
 module _ (c : ℕ) (cs signs post : List ℕ) (t : Tone) (same : each (λ x. eqb x c) cs ≡ true) (place : pitchOf c (suc (length cs)) ≡ At (t .step) (t .octave)) (signed : allIn signBytes signs ≡ true) (alter : carried alteredBy 128 signs ≡ t .alter) (m : allIn markBytes post ≡ true) where
   both : (test : ℕ → Bool) → each test signBytes ≡ true → each test markBytes ≡ true → each test (signs ++ post) ≡ true
@@ -159,7 +160,7 @@ module _ (c : ℕ) (cs signs post : List ℕ) (t : Tone) (same : each (λ x. eqb
             ap (λ (p : Pitch). heard (begun Silence p) (marked tail [])) place
             ∙ heard-behind (record { step = t .step; octave = t .octave; alter = 128 }) tail
             ∙ ap (λ (a : ℕ). record { step = t .step; octave = t .octave; alter = a } ∷ []) altered;
-        odd = λ o. rw place (signifiers-marks true tail [] (each-join (passes true) signs post (each-in (passes true) signBytes signs refl signed) (not-odd true refl post m o)) ∙ signifiers-none true);
+        unknown = λ o. rw place (signifiers-marks true tail [] (each-join (passes true) signs post (each-in (passes true) signBytes signs refl signed) (not-unknown true refl post m o)) ∙ no-signifiers true);
         undotted = count-empty 46 tail (both (differs 46) refl refl);
         rests = contains-empty 114 tail (both (differs 114) refl refl);
         graces = grace-empty tail (both graceless refl refl);
@@ -171,7 +172,7 @@ module _ (c : ℕ) (cs signs post : List ℕ) (t : Tone) (same : each (λ x. eqb
 body-run : (c : ℕ) (run signs post : List ℕ) (t : Tone) → each (λ x. eqb x c) run ≡ true → pitchOf c (length run) ≡ At (t .step) (t .octave)
     → allIn signBytes signs ≡ true → carried alteredBy 128 signs ≡ t .alter → allIn markBytes post ≡ true → Body (run ++ signs) false t post
 unfolding pitchOf
-body-run c [] signs post t e p s a m = absurd (let z : _≡_ {A = ℕ} 0 1 = cc in omega arith)
+body-run c [] signs post t e p s a m = clash cc
 body-run c (x ∷ cs) signs post t e p s a m =
     rw (eqb-true x c (each-head (λ y. eqb y c) x cs e)) (body-letters c cs signs post t (each-tail (λ y. eqb y c) x cs e) p s a m)
 

@@ -8,27 +8,24 @@ use lib.Dec.{T, eqb, ltb}
 use lib.ListN.{length, getD}
 use borrow.Author.Tests.{eq-eqb, ne-eqb, eqb-true, lt-ltb, not-true}
 use Rattle.slices.specs.Ascii.{ascii}
-use Rattle.slices.specs.Finite.{below}
-use Rattle.notation.specs.Search.{contains}
+use Rattle.slices.specs.Finite.{below, is-true}
+use Rattle.notation.specs.Bytes.{contains}
 use Rattle.token.specs.Token.{articulation}
-use Rattle.plain.specs.Usual.{digitBytes, oddBytes, markBytes, allIn, Said, saidBy, Marking}
+use Rattle.plain.specs.Usual.{digitBytes, unknownBytes, markBytes, allIn, Said, saidBy, Marking}
 use Rattle.plain.proofs.PieceLaws.{carried-turn}
-use Rattle.slices.proofs.CompareLaws.{and-left, and-right}
-
-pub clash : {t : Bool} → t ≡ true → t ≡ false → ⊥
-clash {t} p q = let z : _≡_ {A = ℕ} 0 1 = cc in omega arith
+use Rattle.slices.proofs.TestLaws.{not-both, and-left, and-right}
 
 pub or-left : (a b : Bool) → (a || b) ≡ false → a ≡ false
 or-left true b e = e
 or-left false b e = refl
 
 pub or-right : (a b : Bool) → (a || b) ≡ false → b ≡ false
-or-right true b e = absurd (clash refl e)
+or-right true b e = absurd (not-both refl e)
 or-right false b e = e
 
 pub or-only : (a b : Bool) → b ≡ false → (a || b) ≡ true → a ≡ true
 or-only true b q e = refl
-or-only false b q e = absurd (clash e q)
+or-only false b q e = absurd (not-both e q)
 
 -- a test that passes at each byte of a list
 unfoldable pub each : (ℕ → Bool) → List ℕ → Bool
@@ -38,7 +35,7 @@ each test (x ∷ xs) = test x && each test xs
 -- a test that passes at each byte of a word passes at a byte that stands in it
 pub among : (test : ℕ → Bool) (word : List ℕ) → each test word ≡ true → (b : ℕ) → contains b word ≡ true → test b ≡ true
 unfolding each contains
-among test [] e b h = absurd (clash h refl)
+among test [] e b h = absurd (not-both h refl)
 among test (x ∷ xs) e b h = go (eqb x b) refl h (among test xs (and-right (test x) (each test xs) e) b)
   where
     go : (t : Bool) → eqb x b ≡ t → (t || contains b xs) ≡ true → (contains b xs ≡ true → test b ≡ true) → test b ≡ true
@@ -54,14 +51,14 @@ each-in test word (x ∷ xs) e h =
 
 -- a byte that does not stand in a word is none of its bytes
 pub other : (word : List ℕ) (b x : ℕ) → contains b word ≡ false → contains x word ≡ true → eqb b x ≡ false
-other word b x p q = ne-eqb b x (λ e. clash (ap (λ (y : ℕ). contains y word) e ∙ q) p)
+other word b x p q = ne-eqb b x (λ e. not-both (ap (λ (y : ℕ). contains y word) e ∙ q) p)
 
 -- and stands in no part of it
 pub part : (small word : List ℕ) → each (λ x. contains x word) small ≡ true → (b : ℕ) → contains b word ≡ false → contains b small ≡ false
 part small word e b p = go (contains b small) refl
   where
     go : (t : Bool) → contains b small ≡ t → contains b small ≡ false
-    go true q = absurd (clash (among (λ x. contains x word) small e b q) p)
+    go true q = absurd (not-both (among (λ x. contains x word) small e b q) p)
     go false q = q
 
 -- ---- digits
@@ -70,10 +67,6 @@ unfolding contains
 digit-in b l h =
     let back : 48 + (b - 48) ≡ b = omega arith in
     is-true (contains b digitBytes) (subst (λ (x : ℕ). T (contains x digitBytes)) back (below (λ k. contains (48 + k) digitBytes) 10 tt (b - 48) (omega arith)))
-  where
-    is-true : (t : Bool) → T t → t ≡ true
-    is-true true h = refl
-    is-true false h = absurd h
 
 -- ---- articulations
 abbrev articulationBytes : List ℕ
@@ -94,7 +87,7 @@ swap a b = go (eqb a b) refl
   where
     go : (t : Bool) → eqb a b ≡ t → eqb a b ≡ eqb b a
     go true e = e ∙ sym (eq-eqb b a (sym (eqb-true a b e)))
-    go false e = e ∙ sym (ne-eqb b a (λ q. clash (eq-eqb a b (sym q)) e))
+    go false e = e ∙ sym (ne-eqb b a (λ q. not-both (eq-eqb a b (sym q)) e))
 
 pub articulation-in : (b : ℕ) → ltb (articulation b) 5 ≡ true → contains b articulationBytes ≡ true
 unfolding articulation contains
@@ -115,11 +108,11 @@ none : (small : List ℕ) → each (λ x. not (contains x small)) articulationBy
 none small e b h = not-true (contains b small) (among (λ x. not (contains x small)) articulationBytes e b (articulation-in b h))
 
 pub said-articulation : (s : Said) (b : ℕ) → ltb (articulation b) 5 ≡ true
-    → record { ties = s .ties; tied = s .tied; slurs = s .slurs; slurred = s .slurred; starts = s .starts; ends = s .ends; articulations = s .articulations + 1; odd = s .odd }
+    → record { ties = s .ties; tied = s .tied; slurs = s .slurs; slurred = s .slurred; starts = s .starts; ends = s .ends; articulations = s .articulations + 1; unknown = s .unknown }
     ≡ saidBy s b
 unfolding contains each
 said-articulation s b h =
-    sym (rw (none (ascii "[_") refl b h, none (ascii "]_") refl b h, none (ascii "(") refl b h, none (ascii ")") refl b h, h, none oddBytes refl b h, sw 76 refl, sw 74 refl))
+    sym (rw (none (ascii "[_") refl b h, none (ascii "]_") refl b h, none (ascii "(") refl b h, none (ascii ")") refl b h, h, none unknownBytes refl b h, sw 76 refl, sw 74 refl))
   where
     sw : (x : ℕ) → each (λ y. not (eqb y x)) articulationBytes ≡ true → eqb b x ≡ false
     sw x e = not-true (eqb b x) (among (λ y. not (eqb y x)) articulationBytes e b (articulation-in b h))
@@ -128,29 +121,29 @@ pub articulation-mark : (b : ℕ) → ltb (articulation b) 5 ≡ true → contai
 unfolding contains each
 articulation-mark b h = among (λ x. contains x markBytes) articulationBytes refl b (articulation-in b h)
 
--- an odd mark
-pub odd-mark : (b : ℕ) → contains b oddBytes ≡ true → contains b markBytes ≡ true
+-- an unknown mark
+pub unknown-mark : (b : ℕ) → contains b unknownBytes ≡ true → contains b markBytes ≡ true
 unfolding contains each
-odd-mark b h = among (λ x. contains x markBytes) oddBytes refl b h
+unknown-mark b h = among (λ x. contains x markBytes) unknownBytes refl b h
 
-pub said-odd : (s : Said) (b : ℕ) → contains b oddBytes ≡ true
-    → record { ties = s .ties; tied = s .tied; slurs = s .slurs; slurred = s .slurred; starts = s .starts; ends = s .ends; articulations = s .articulations; odd = true }
+pub said-unknown : (s : Said) (b : ℕ) → contains b unknownBytes ≡ true
+    → record { ties = s .ties; tied = s .tied; slurs = s .slurs; slurred = s .slurred; starts = s .starts; ends = s .ends; articulations = s .articulations; unknown = true }
     ≡ saidBy s b
 unfolding contains each articulation
-said-odd s b h = sym (rw (out (ascii "[_") refl, out (ascii "]_") refl, out (ascii "(") refl, out (ascii ")") refl, h, no (λ x. eqb x 76) refl, no (λ x. eqb x 74) refl, no (λ x. ltb (articulation x) 5) refl))
+said-unknown s b h = sym (rw (out (ascii "[_") refl, out (ascii "]_") refl, out (ascii "(") refl, out (ascii ")") refl, h, no (λ x. eqb x 76) refl, no (λ x. eqb x 74) refl, no (λ x. ltb (articulation x) 5) refl))
   where
-    no : (test : ℕ → Bool) → each (λ x. not (test x)) oddBytes ≡ true → test b ≡ false
-    no test e = not-true (test b) (among (λ x. not (test x)) oddBytes e b h)
+    no : (test : ℕ → Bool) → each (λ x. not (test x)) unknownBytes ≡ true → test b ≡ false
+    no test e = not-true (test b) (among (λ x. not (test x)) unknownBytes e b h)
 
-    out : (small : List ℕ) → each (λ x. not (contains x small)) oddBytes ≡ true → contains b small ≡ false
+    out : (small : List ℕ) → each (λ x. not (contains x small)) unknownBytes ≡ true → contains b small ≡ false
     out small e = no (λ x. contains x small) e
 
 -- a byte that is no mark says nothing
 pub said-still : (s : Said) (b : ℕ) → contains b markBytes ≡ false → saidBy s b ≡ s
 unfolding contains each
 said-still s b h =
-    rw (part (ascii "[_") markBytes refl b h, part (ascii "]_") markBytes refl b h, part (ascii "(") markBytes refl b h, part (ascii ")") markBytes refl b h, other markBytes b 76 h refl, other markBytes b 74 h refl, part oddBytes markBytes refl b h, a (ltb (articulation b) 5) refl)
+    rw (part (ascii "[_") markBytes refl b h, part (ascii "]_") markBytes refl b h, part (ascii "(") markBytes refl b h, part (ascii ")") markBytes refl b h, other markBytes b 76 h refl, other markBytes b 74 h refl, part unknownBytes markBytes refl b h, a (ltb (articulation b) 5) refl)
   where
     a : (t : Bool) → ltb (articulation b) 5 ≡ t → ltb (articulation b) 5 ≡ false
-    a true q = absurd (clash (articulation-mark b q) h)
+    a true q = absurd (not-both (articulation-mark b q) h)
     a false q = q

@@ -1,13 +1,12 @@
 -- The items of a token by its runs: digits, a letter, and single bytes.
 use mathlib.Core.Path.{_≡_, refl, sym, ap, _∙_}
 use Prim.Native.Nat.{ℕ, suc}
-use native.Mathlib.Omega.{arith}
 use mathlib.Core.List.{List, [], _∷_, _++_}
 use mathlib.Core.Bool.{Bool, true, false, cond, not, _&&_, _||_}
 use lib.Dec.{eqb}
 use lib.ListN.{length}
 use borrow.Author.Tests.{eq-eqb, eqb-true, not-true}
-use Rattle.notation.specs.Search.{contains}
+use Rattle.notation.specs.Bytes.{contains}
 use Rattle.pitch.specs.Pitch.{within, pitchOf}
 use Rattle.pitch.specs.declared.Pitch.{Pitch}
 use Rattle.pitch.specs.declared.Pitch.the-variants.{At, Outside}
@@ -15,8 +14,8 @@ use Rattle.duration.specs.Duration.{durationOf}
 use Rattle.items.specs.Items.{isDigit, isLetter, joins, into, runs, itemOf, itemsOf, items}
 use Rattle.items.specs.declared.Item.{Item}
 use Rattle.items.specs.declared.Item.the-variants.{Digits, Letters, Mark}
-use Rattle.plain.proofs.ByteLaws.{clash, each, among}
-use Rattle.slices.proofs.CompareLaws.{and-left, and-right}
+use Rattle.plain.proofs.ByteLaws.{each, among}
+use Rattle.slices.proofs.TestLaws.{clash, and-left, and-right, not-both}
 use Rattle.items.proofs.NextLaws.{digit-joins}
 
 -- ---- the first byte of a run
@@ -116,10 +115,10 @@ items-marks (x ∷ xs) rest e =
 
 -- ---- a pitch is written by a letter
 letter-by : (t u v : Bool) (l h : Pitch) {step octave : ℕ} → cond t Outside (cond u l (cond v h Outside)) ≡ At step octave → (u || v) ≡ true
-letter-by true u v l h e = absurd (let z : _≡_ {A = ℕ} 0 1 = cc in omega arith)
+letter-by true u v l h e = clash cc
 letter-by false true v l h e = refl
 letter-by false false true l h e = refl
-letter-by false false false l h e = absurd (let z : _≡_ {A = ℕ} 0 1 = cc in omega arith)
+letter-by false false false l h e = clash cc
 
 pub letter-of : (c n : ℕ) {step octave : ℕ} → pitchOf c n ≡ At step octave → isLetter c ≡ true
 unfolding pitchOf isLetter
@@ -130,7 +129,7 @@ pub not-letter : (word : List ℕ) → each (λ x. not (isLetter x)) word ≡ tr
 not-letter word e c l = go (contains c word) refl
   where
     go : (t : Bool) → contains c word ≡ t → contains c word ≡ false
-    go true q = absurd (clash l (not-true (isLetter c) (among (λ x. not (isLetter x)) word e c q)))
+    go true q = absurd (not-both l (not-true (isLetter c) (among (λ x. not (isLetter x)) word e c q)))
     go false q = q
 
 pub begins-over : (test : ℕ → Bool) (xs rest : List ℕ) → each (λ x. not (test x)) xs ≡ true → begins test rest ≡ false

@@ -15,7 +15,7 @@ use Rattle.lines.specs.Lines.{pieceEnd}
 use Rattle.lines.specs.Tokens.{isNull}
 use Rattle.duration.specs.Duration.{digit, digits, number, numberFrom, durationOf}
 use Rattle.duration.specs.declared.Value.{Value}
-use Rattle.notation.specs.Search.{contains}
+use Rattle.notation.specs.Bytes.{contains}
 use Rattle.pitch.specs.Pitch.{pitchOf}
 use Rattle.pitch.specs.declared.Pitch.{Pitch}
 use Rattle.pitch.specs.declared.Pitch.the-variants.{At}
@@ -144,7 +144,7 @@ module _ {line : List ℕ} {from digits to sound : ℕ} (opening : Opening) (v :
       let s : carried saidBy (carried saidBy (opened false false) pre) post ≡ h .said = ap (λ (u : Said). carried saidBy u post) (o .same) ∙ h .marks .same in (
         end-is line from (p .end) (omega (arith, o .run .low, d .low, dot .low, h .sound .low, h .marks .run .low)) (h .marks .run .high) (ap (each (differs 9)) whole ∙ tab) (h .closed),
         rw whole
-            (plain-token pre ds dots bytes post (h .sung .rest) (h .sung .tone) (o .run .inside) (d .inside) more (dot .inside) less b (h .said) s v (parts found) p (rw k (h .note)) (h .tone) (h .starts) (h .ends) (h .odd)),
+            (plain-token pre ds dots bytes post (h .sung .rest) (h .sung .tone) (o .run .inside) (d .inside) more (dot .inside) less b (h .said) s v (parts found) p (rw k (h .note)) (h .tone) (h .starts) (h .ends) (h .unknown)),
       )
 
   pub shape-is : (r : Shape) → TailAt line sound opening v (sound - to) r → ShapeAt line from r

@@ -7,7 +7,7 @@ use mathlib.Core.Bool.{Bool, true, _&&_, and-assoc}
 use lib.ListN.{length, take, drop, getD, length-drop}
 use lib.Seq.{take-suc, take-add, getD-drop, drop-drop, length-take-le}
 use Rattle.slices.specs.Split.{pieceAt}
-use Rattle.notation.specs.Search.{contains}
+use Rattle.notation.specs.Bytes.{contains}
 use Rattle.plain.specs.Usual.{allIn, carried, Run, Carried}
 
 pub allIn-append : (word xs ys : List ℕ) → allIn word (xs ++ ys) ≡ (allIn word xs && allIn word ys)

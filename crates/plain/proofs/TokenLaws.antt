@@ -10,8 +10,9 @@ use lib.ListN.{length}
 use borrow.Author.Tests.{not-true}
 use Rattle.slices.specs.Ascii.{ascii}
 use Rattle.slices.specs.Compare.{sameBytes}
+use Rattle.token.proofs.SignifierLaws.{past-digits}
 use Rattle.lines.specs.Tokens.{isNull}
-use Rattle.notation.specs.Search.{contains}
+use Rattle.notation.specs.Bytes.{contains}
 use Rattle.notation.specs.Beam.{lettersOf}
 use Rattle.pitch.specs.Pitch.{within}
 use Rattle.duration.specs.Duration.{durationOf}
@@ -28,18 +29,18 @@ use Rattle.token.specs.declared.outcome.Outcome.the-variants.{Heard}
 use Rattle.token.specs.declared.pitches.Tone.{Tone}
 use Rattle.token.specs.declared.pitches.Sound.the-variants.{Silence}
 use Rattle.plain.specs.Plain.{PlainToken}
-use Rattle.plain.specs.Usual.{digitBytes, oddBytes, markBytes, allIn, carried, Said, saidBy, opened, noteFrom}
+use Rattle.plain.specs.Usual.{digitBytes, unknownBytes, markBytes, allIn, carried, Said, saidBy, opened, noteFrom}
 use Rattle.plain.specs.declared.Plain.{Plain}
 use Rattle.plain.specs.declared.Valued.{Valued}
 use Rattle.plain.proofs.PieceLaws.{carried-append}
 use Rattle.plain.proofs.ByteLaws.{each, each-in, or-left, or-right}
 use Rattle.plain.proofs.ItemLaws.{single, marked, begins, begins-over, items-marks, items-digits}
-use Rattle.plain.proofs.AspectLaws.{each-head, differs, graceless, bad-marks, bad-digits, up-marks, first-marks, silent-marks, given-marks, marks-marks, marks-digits, count-none, count-all, contains-none, grace-none, still-over, says, heard-before, heard-digits, not-odd, signifiers-marks, signifiers-digits}
+use Rattle.plain.proofs.AspectLaws.{each-head, differs, graceless, bad-marks, bad-digits, up-marks, first-marks, silent-marks, given-marks, marks-marks, marks-digits, count-none, count-all, contains-none, grace-none, still-over, says, heard-before, heard-digits, not-unknown, signifiers-marks}
 use Rattle.plain.proofs.BodyLaws.{Body, each-join}
 
 -- the scan of such a token, with so many signifiers
 abbrev usual : Value → ℕ → Bool → Said → ℕ → Scan
-usual v dots rest s odds =
+usual v dots rest s unknowns =
     record {
       bad = false;
       silent = false;
@@ -47,7 +48,7 @@ usual v dots rest s odds =
       dots = dots;
       rest = rest;
       pitches = cond rest 0 1;
-      signifiers = odds;
+      signifiers = unknowns;
       ties = s .ties;
       tied = s .tied;
       slurs = s .slurs;
@@ -154,13 +155,13 @@ module _ (pre ds dots bytes post : List ℕ) (rest : Bool) (t : Tone) (p : allIn
       ∙ heard-before dots (b .body)
       ∙ b .tones
 
-  none-odd : anyOf oddBytes pre ≡ false → anyOf oddBytes post ≡ false → signifiers false is ≡ []
+  none-unknown : anyOf unknownBytes pre ≡ false → anyOf unknownBytes post ≡ false → signifiers false is ≡ []
   unfolding each passes contains
-  none-odd e k =
-      signifiers-marks false pre (Digits (durationOf ds) ∷ marked dots (b .body)) (not-odd false refl pre p e)
-      ∙ signifiers-digits (durationOf ds) (marked dots (b .body))
+  none-unknown e k =
+      signifiers-marks false pre (Digits (durationOf ds) ∷ marked dots (b .body)) (not-unknown false refl pre p e)
+      ∙ past-digits false (durationOf ds) (marked dots (b .body))
       ∙ signifiers-marks false dots (b .body) (each-in (passes false) (46 ∷ []) dots refl o)
-      ∙ b .odd k
+      ∙ b .unknown k
 
   sounds-is : isNull token ≡ false
   unfolding each
@@ -222,16 +223,16 @@ module _ (pre ds dots bytes post : List ℕ) (rest : Bool) (t : Tone) (p : allIn
         let j : contains 74 token ≡ s .ends = sym (g .ends ∙ or-false _) ∙ ap (λ (u : Said). u .ends) bytes-say in
         rw (l, j)
 
-    -- it has nothing to report where no mark is odd
-    quiet-token : s .odd ≡ false → signifiers false is ≡ []
+    -- it has nothing to report where no mark is unknown
+    quiet-token : s .unknown ≡ false → signifiers false is ≡ []
     quiet-token q =
         let u : Said = carried saidBy (opened false false) pre in
-        let first : u .odd ≡ anyOf oddBytes pre = says (opened false false) pre .odd ∙ or-false _ in
-        let then : (anyOf oddBytes post || u .odd) ≡ false = sym (says u post .odd) ∙ ap (λ (w : Said). w .odd) e ∙ q in
-        none-odd (sym first ∙ or-right (anyOf oddBytes post) (u .odd) then) (or-left (anyOf oddBytes post) (u .odd) then)
+        let first : u .unknown ≡ anyOf unknownBytes pre = says (opened false false) pre .unknown ∙ or-false _ in
+        let then : (anyOf unknownBytes post || u .unknown) ≡ false = sym (says u post .unknown) ∙ ap (λ (w : Said). w .unknown) e ∙ q in
+        none-unknown (sym first ∙ or-right (anyOf unknownBytes post) (u .unknown) then) (or-left (anyOf unknownBytes post) (u .unknown) then)
 
     -- a token of this shape is a note, whatever its peers give
-    module _ (v : Valued) (parts : (w : Scan) → noted false (durationOf ds) w ≡ Heard (noteOf false (v .value) (v .actual) (v .normal) w)) where
+    module _ (v : Valued) (parts : (w : Scan) → noted (durationOf ds) w ≡ Heard (noteOf false (v .value) (v .actual) (v .normal) w)) where
       outcome-is : (inferred : Value) → outcomeOf (scanOf token) inferred ≡ Heard (noteFrom v (length dots) rest s)
       unfolding outcomeOf noteOf
       outcome-is inferred =
@@ -239,18 +240,18 @@ module _ (pre ds dots bytes post : List ℕ) (rest : Bool) (t : Tone) (p : allIn
           ∙ ap (λ (w : Scan). outcomeOf w inferred) scan-is
           ∙ go rest
         where
-          odds : ℕ
-          odds = length (signifiers false is)
+          unknowns : ℕ
+          unknowns = length (signifiers false is)
 
-          go : (r : Bool) → outcomeOf (usual (durationOf ds) (length dots) r s odds) inferred ≡ Heard (noteFrom v (length dots) r s)
-          go true = parts (usual (durationOf ds) (length dots) true s odds)
-          go false = parts (usual (durationOf ds) (length dots) false s odds)
+          go : (r : Bool) → outcomeOf (usual (durationOf ds) (length dots) r s unknowns) inferred ≡ Heard (noteFrom v (length dots) r s)
+          go true = parts (usual (durationOf ds) (length dots) true s unknowns)
+          go false = parts (usual (durationOf ds) (length dots) false s unknowns)
 
-      pub plain-token : (x : Plain) → x .note ≡ noteFrom v (length dots) rest s → x .tone ≡ t → x .starts ≡ s .starts → x .ends ≡ s .ends → x .odd ≡ s .odd → PlainToken token x
-      plain-token x n tone starts ends odd =
+      pub plain-token : (x : Plain) → x .note ≡ noteFrom v (length dots) rest s → x .tone ≡ t → x .starts ≡ s .starts → x .ends ≡ s .ends → x .unknown ≡ s .unknown → PlainToken token x
+      plain-token x n tone starts ends unknown =
           record {
             outcome = λ i. outcome-is i ∙ ap Heard (sym n);
-            reports = λ q. rw (items-are, good) (quiet-token (sym odd ∙ q));
+            reports = λ q. rw (items-are, good) (quiet-token (sym unknown ∙ q));
             sure = rw n;
             letters = letters-are ∙ rw (starts, ends);
             pitches = rw (items-are, rested, n, tone) (ap (λ (l : List Tone). cond rest [] l) tones ∙ twice rest);

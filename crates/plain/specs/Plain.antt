@@ -15,10 +15,10 @@ use Rattle.plain.specs.declared.Plain.{Plain}
 use Rattle.plain.specs.declared.Shape.{Shape}
 use Rattle.plain.specs.declared.Shape.the-variants.{Other, Null, Note}
 
--- a token that gives a note, whatever its peers give; a rest has no pitch, any other note one; only an odd one has signifiers to report
+-- a token that gives a note, whatever its peers give; a rest has no pitch, any other note one; only an unknown one has signifiers to report
 pub record PlainToken (token : List ℕ) (p : Plain) : Type 0 where
   pub outcome : (inferred : Value) → outcomeOf (scanOf token) inferred ≡ Heard (p .note)
-  pub reports : p .odd ≡ false → reported token ≡ []
+  pub reports : p .unknown ≡ false → reported token ≡ []
   pub sure : p .note .inferred ≡ false
   pub letters : lettersOf token ≡ record { starts = p .starts; ends = p .ends }
   pub pitches : notePitches token ≡ cond (p .note .rest) [] (p .tone ∷ [])

@@ -7,7 +7,7 @@ use lib.Dec.{eqb, ltb}
 use lib.ListN.{length, getD}
 use Rattle.slices.specs.Ascii.{ascii}
 use Rattle.slices.specs.Split.{pieceAt}
-use Rattle.notation.specs.Search.{contains}
+use Rattle.notation.specs.Bytes.{contains}
 use Rattle.duration.specs.declared.Value.{Value}
 use Rattle.pitch.specs.Pitch.{pitchOf, alteredBy}
 use Rattle.pitch.specs.declared.Pitch.the-variants.{At}
@@ -28,13 +28,13 @@ use Rattle.plain.specs.declared.Shape.the-variants.{Other, Null, Note as
 abbrev pub digitBytes : List ℕ
 digitBytes = ascii "0123456789"
 
--- the marks that say nothing, of those that ASCII prints
-abbrev pub oddBytes : List ℕ
-oddBytes = ascii "!\"$&*+,/:<=>?@HIKMNOPRSUVWXYZ\\`hijklmopsuvwxyz{|}"
+-- the unknown marks, of those that ASCII prints
+abbrev pub unknownBytes : List ℕ
+unknownBytes = ascii "!\"$&*+,/:<=>?@HIKMNOPRSUVWXYZ\\`hijklmopsuvwxyz{|}"
 
 -- ties, slurs, beams and articulations, and those
 abbrev pub markBytes : List ℕ
-markBytes = ascii "LJ[]_()'^~;Tt" ++ oddBytes
+markBytes = ascii "LJ[]_()'^~;Tt" ++ unknownBytes
 
 abbrev pub signBytes : List ℕ
 signBytes = ascii "#-n"
@@ -64,11 +64,11 @@ pub record Said : Type 0 where
   pub starts : Bool
   pub ends : Bool
   pub articulations : ℕ
-  pub odd : Bool
+  pub unknown : Bool
 
 abbrev pub opened : Bool → Bool → Said
 opened ties slurs =
-    record { ties = ties; tied = false; slurs = slurs; slurred = false; starts = false; ends = false; articulations = 0; odd = false }
+    record { ties = ties; tied = false; slurs = slurs; slurred = false; starts = false; ends = false; articulations = 0; unknown = false }
 
 abbrev pub saidOf : Marked → Said
 saidOf m =
@@ -80,7 +80,7 @@ saidOf m =
       starts = m .starts;
       ends = m .ends;
       articulations = m .articulations;
-      odd = m .odd;
+      unknown = m .unknown;
     }
 
 -- one mark more
@@ -94,7 +94,7 @@ saidBy s b =
       starts = eqb b 76 || s .starts;
       ends = eqb b 74 || s .ends;
       articulations = cond (ltb (articulation b) 5) (s .articulations + 1) (s .articulations);
-      odd = contains b oddBytes || s .odd;
+      unknown = contains b unknownBytes || s .unknown;
     }
 
 -- a state carried over a run of bytes of a line
@@ -137,7 +137,7 @@ pub record SungAt (line : List ℕ) (from : ℕ) (s : Sung) : Type 0 where
 
 -- ---- the length
 abbrev pub Parts : Value → Valued → Type 0
-Parts v r = r .missing ≡ false → (s : Scan) → noted false v s ≡ Heard (noteOf false (r .value) (r .actual) (r .normal) s)
+Parts v r = r .missing ≡ false → (s : Scan) → noted v s ≡ Heard (noteOf false (r .value) (r .actual) (r .normal) s)
 
 -- ---- the note of a rest or of one pitch: a rest has no ties and no pitches
 abbrev pub noteFrom : Valued → ℕ → Bool → Said → Note
@@ -173,7 +173,7 @@ pub record Tail (line : List ℕ) (from : ℕ) (opening : Opening) (v : Valued) 
   pub tone : p .tone ≡ sung .tone
   pub starts : p .starts ≡ said .starts
   pub ends : p .ends ≡ said .ends
-  pub odd : p .odd ≡ said .odd
+  pub unknown : p .unknown ≡ said .unknown
 
 abbrev pub TailAt : List ℕ → ℕ → Opening → Valued → ℕ → Shape → Type 0
 TailAt line from opening v dots Other = Unit {0}

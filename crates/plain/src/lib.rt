@@ -8,17 +8,17 @@ ghost use mathlib.Core.Bool.{true, false};
 ghost use Prim.Native.Nat.{_≤_};
 ghost use mathlib.Core.List.{[], _∷_};
 ghost use lib.ListN.{length};
-ghost use Rattle.notation.specs.Search.{contains};
+ghost use Rattle.notation.specs.Bytes.{contains};
 ghost use Rattle.plain.specs.Plain.{ShapeAt};
-ghost use Rattle.plain.specs.Usual.{oddBytes, signBytes, Run, opened, saidOf, Marking, Numbering, Signing, SungAt, Parts, noteFrom, Closed, TailAt};
+ghost use Rattle.plain.specs.Usual.{unknownBytes, signBytes, Run, opened, saidOf, Marking, Numbering, Signing, SungAt, Parts, noteFrom, Closed, TailAt};
 
-// A note of one pitch or a rest, whether L and J and odd marks stand in its token, and where the token ends.
+// A note of one pitch or a rest, whether L and J and unknown marks stand in its token, and where the token ends.
 pub struct Plain {
     pub note: Note,
     pub tone: Tone,
     pub starts: bool,
     pub ends: bool,
-    pub odd: bool,
+    pub unknown: bool,
     pub end: usize,
 }
 
@@ -45,7 +45,7 @@ struct Marked {
     starts: bool,
     ends: bool,
     articulations: usize,
-    odd: bool,
+    unknown: bool,
     end: usize,
 }
 
@@ -110,12 +110,12 @@ fn openings(line: &[u8], from: usize) -> Opening
     }
 }
 
-// How many marks are read at one go once there are odd ones among them; more of them are left to the scan, which goes by runs.
+// How many marks are read at one go once there are unknown ones among them; more of them are left to the scan, which goes by runs.
 const FEW: usize = 64;
 
-// Whether a byte is an odd mark, and has few marks before it.
-fn is_odd(b: u8, before: usize) -> bool
-    ensures { λ r. ⌜ (r ≡ true → contains b oddBytes ≡ true) ⌝ }
+// Whether a byte is an unknown mark, and has few marks before it.
+fn is_unknown(b: u8, before: usize) -> bool
+    ensures { λ r. ⌜ (r ≡ true → contains b unknownBytes ≡ true) ⌝ }
 {
     if b < 33 {
         return false;
@@ -126,7 +126,7 @@ fn is_odd(b: u8, before: usize) -> bool
     if FEW < before {
         return false;
     }
-    scan::is_odd(b)
+    scan::is_unknown(b)
 }
 
 // The marks from an index on, behind the opening ones.
@@ -141,7 +141,7 @@ fn marks(line: &[u8], from: usize, tying: bool, slurring: bool) -> Marked
     let mut starts = false;
     let mut ends = false;
     let mut articulations: usize = 0;
-    let mut odd = false;
+    let mut unknown = false;
     let mut i = from;
     while i < line.len() {
         let b = line[i];
@@ -170,8 +170,8 @@ fn marks(line: &[u8], from: usize, tying: bool, slurring: bool) -> Marked
         } else if scan::articulation(b) < 5 {
             articulations += 1;
             i += 1;
-        } else if is_odd(b, i - from) {
-            odd = true;
+        } else if is_unknown(b, i - from) {
+            unknown = true;
             i += 1;
         } else {
             return Marked {
@@ -182,7 +182,7 @@ fn marks(line: &[u8], from: usize, tying: bool, slurring: bool) -> Marked
                 starts,
                 ends,
                 articulations,
-                odd,
+                unknown,
                 end: i,
             };
         }
@@ -195,7 +195,7 @@ fn marks(line: &[u8], from: usize, tying: bool, slurring: bool) -> Marked
         starts,
         ends,
         articulations,
-        odd,
+        unknown,
         end: i,
     }
 }
@@ -420,7 +420,7 @@ fn sounded(line: &[u8], from: usize, opening: Opening, v: Valued, dots: u8) -> S
             tone,
             starts: m.starts,
             ends: m.ends,
-            odd: m.odd,
+            unknown: m.unknown,
             end: m.end,
         });
     }

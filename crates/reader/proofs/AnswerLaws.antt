@@ -10,6 +10,7 @@ use lib.ListN.{length, take, drop, getD, length-append, length-drop, drop-of-len
 use lib.Seq.{drop-at, drop-drop, take-all, length-take-le}
 use borrow.Author.Tests.{le-leb, lt-leb, eq-eqb, ne-eqb}
 use Rattle.slices.specs.Store.{stored}
+use Rattle.slices.proofs.TestLaws.{clash}
 use Rattle.utf8.specs.Utf8.{utf8Length}
 use Rattle.lines.specs.Lines.{linesOf}
 use Rattle.sheet.specs.Record.{Record, headBytes, recordsBytes}
@@ -55,7 +56,7 @@ read-by-lines text h u out =
 -- ---- a refusal
 pub refusal-is : (a : Answer) (n l f : ℕ) (out : List ℕ) → refused n l f ≡ finished a out → a ≡ refusal n l f
 refusal-is (refusal m k g) n l f out e = cc
-refusal-is (accepted p m rs) n l f out e = absurd (let w : _≡_ {A = ℕ} 0 1 = cc in omega arith)
+refusal-is (accepted p m rs) n l f out e = clash cc
 
 pub answers-refusal : (text old : List ℕ) (n l f : ℕ) → readText text ≡ refusal n l f → (answerOf text old ≡ (n, l, f)) × (bufferOf text old ≡ old)
 unfolding answerOf bufferOf
@@ -64,7 +65,7 @@ answers-refusal text old n l f e = (rw e, rw e)
 -- ---- an acceptance
 measured-at : (text : List ℕ) (a : Answer) (parts notes at : ℕ) (out rest : List ℕ) → readText text ≡ a → written parts notes at rest ≡ finished a out
     → Measured text parts notes at
-measured-at text (refusal n l f) parts notes at out rest e w = absurd (let z : _≡_ {A = ℕ} 0 1 = cc in omega arith)
+measured-at text (refusal n l f) parts notes at out rest e w = clash cc
 measured-at text (accepted p n rs) parts notes at out rest e w =
     let a : parts ≡ p = cc in
     let b : notes ≡ n = cc in
@@ -110,7 +111,7 @@ pub body-laid : {text : List ℕ} {parts notes at : ℕ} (out rest : List ℕ) (
     → (f : Finish) → finishedBy f rest ≡ finished (readText text) out → rest ≡ recordsBytes (m .records) ++ drop at out
 body-laid out rest m h (Refused n l g) e =
     let f : refused n l g ≡ finished (accepted _ _ (m .records)) out = rw (m .is) at e in
-    absurd (let z : _≡_ {A = ℕ} 0 1 = cc in omega arith)
+    clash cc
 body-laid {at = at} out rest m h (Written p n k) e =
     let f : written p n k rest ≡ finished (accepted _ _ (m .records)) out = rw (m .is) at e in
     let r : rest ≡ laid out 0 (m .records) = cc in
@@ -172,7 +173,7 @@ answers-refused text old n l f e =
         (
           sym (a .1),
           (
-            λ (k : ℕ) q. absurd (let z : _≡_ {A = ℕ} 0 1 = cc in omega arith),
+            λ (k : ℕ) q. clash cc,
             (λ (g : ℕ) q. absurd (let z : n ≡ 13 = cc in omega (arith, few .1)), question-8 text),
           ),
         ),
@@ -189,7 +190,7 @@ answers-short {text} {parts} {notes} {at} old m h =
         (
           sym (a .1),
           (
-            λ (k : ℕ) q. absurd (let z : _≡_ {A = ℕ} 0 1 = cc in omega arith),
+            λ (k : ℕ) q. clash cc,
             (λ (g : ℕ) q. let z : 16 + at ≡ g = cc in omega (arith, measured-long m), question-8 text),
           ),
         ),
@@ -201,12 +202,12 @@ pub answers-written : {text : List ℕ} {parts notes at : ℕ} (old : List ℕ) 
 answers-written {text} {parts} {notes} {at} old bytes m h {now-out} e = (
   sym (answers-sheet old m h),
   (
-    λ (k g : ℕ) q. let z : _≡_ {A = ℕ} 0 1 = cc in omega arith,
+    λ (k g : ℕ) q. clash cc,
     (
       e,
       (
         λ (k : ℕ) q. subst (Played text) (sym e) (played text old bytes parts notes (m .records) (m .is) (omega (arith, m .size))),
-        (λ (g : ℕ) q. absurd (let z : _≡_ {A = ℕ} 0 1 = cc in omega arith), question-8 text),
+        (λ (g : ℕ) q. clash cc, question-8 text),
       ),
     ),
   ),

@@ -8,6 +8,7 @@ use lib.ListN.{length, take, drop, length-drop, length-map, length-take}
 use lib.Seq.{length-take-le}
 use Rattle.slices.specs.Split.{pieces}
 use Rattle.slices.proofs.SplitLaws.{no-piece, all-pieces}
+use Rattle.slices.proofs.TestLaws.{clash}
 use Rattle.lines.specs.Lines.{linesOf, withoutCRs, kindOf, pieceEnd}
 use Rattle.lines.specs.declared.Kind.{Kind}
 use Rattle.lines.specs.declared.Kind.the-variants.{Empty, Reference, Comment, Star, Bar, Data}
@@ -69,14 +70,14 @@ nearer text {from} {next} on moved = let in-line = inside-of text on moved in om
 
 -- a step that goes on
 goes-is : {st : State} {at : ℕ} {out : List ℕ} (s : Step) (old : List ℕ) (place : ℕ) → going st at out ≡ landed s old place → (r : Result) × (s ≡ goes r) × (r .state ≡ st)
-goes-is (refused-step n l f) old place e = absurd (let w : _≡_ {A = ℕ} 0 1 = cc in omega arith)
+goes-is (refused-step n l f) old place e = clash cc
 goes-is (goes r) old place e = (r, refl, cc)
-goes-is (ends r) old place e = absurd (let w : _≡_ {A = ℕ} 0 1 = cc in omega arith)
+goes-is (ends r) old place e = clash cc
 
 -- a step that ends the reading
 ends-is : {st : State} {at : ℕ} {out : List ℕ} (s : Step) (old : List ℕ) (place : ℕ) → ending st at out ≡ landed s old place → (r : Result) × (s ≡ ends r) × (r .state ≡ st)
-ends-is (refused-step n l f) old place e = absurd (let w : _≡_ {A = ℕ} 0 1 = cc in omega arith)
-ends-is (goes r) old place e = absurd (let w : _≡_ {A = ℕ} 0 1 = cc in omega arith)
+ends-is (refused-step n l f) old place e = clash cc
+ends-is (goes r) old place e = clash cc
 ends-is (ends r) old place e = (r, refl, cc)
 
 -- the bytes aside
@@ -93,11 +94,11 @@ unpaid h = record {
 passed-told : (begun : Bool) (number offset : ℕ) (line out row parts : List ℕ) (t : Tally) (kind : Kind) → kind ≡ kindOf line → isPassed kind ≡ true
     → toldRow (Goes t) row parts out ≡ landed (readLine begun number offset line (stateOf (take (t .active) row) parts t)) out (t .at)
 passed-told begun number offset line out row parts t Empty k p = empty-line begun (stopped 0 0 0) line out (take (t .active) row) parts t number offset k refl
-passed-told begun number offset line out row parts t Reference k p = absurd (let w : _≡_ {A = ℕ} 0 1 = cc in omega arith)
+passed-told begun number offset line out row parts t Reference k p = clash cc
 passed-told begun number offset line out row parts t Comment k p = comment-line begun (stopped 0 0 0) line out (take (t .active) row) parts t number offset k refl
-passed-told begun number offset line out row parts t Star k p = absurd (let w : _≡_ {A = ℕ} 0 1 = cc in omega arith)
-passed-told begun number offset line out row parts t Bar k p = absurd (let w : _≡_ {A = ℕ} 0 1 = cc in omega arith)
-passed-told begun number offset line out row parts t Data k p = absurd (let w : _≡_ {A = ℕ} 0 1 = cc in omega arith)
+passed-told begun number offset line out row parts t Star k p = clash cc
+passed-told begun number offset line out row parts t Bar k p = clash cc
+passed-told begun number offset line out row parts t Data k p = clash cc
 
 -- and is no record
 passed-begun : (begun : Bool) (kind : Kind) → isPassed kind ≡ true → begun ≡ (begun || isRecord kind)
@@ -105,9 +106,9 @@ passed-begun true kind p = refl
 passed-begun false Empty p = refl
 passed-begun false Reference p = refl
 passed-begun false Comment p = refl
-passed-begun false Star p = absurd (let w : _≡_ {A = ℕ} 0 1 = cc in omega arith)
-passed-begun false Bar p = absurd (let w : _≡_ {A = ℕ} 0 1 = cc in omega arith)
-passed-begun false Data p = absurd (let w : _≡_ {A = ℕ} 0 1 = cc in omega arith)
+passed-begun false Star p = clash cc
+passed-begun false Bar p = clash cc
+passed-begun false Data p = clash cc
 
 module _ {text out₀ row parts out : List ℕ} {from number : ℕ} {begun : Bool} {t : Tally}
     (inv : Reading text out₀ row parts out from number begun t) where

@@ -1,6 +1,6 @@
 -- The reading with every definition open: a proof that computes on a text says `unfolding computed`.
 use Prim.Native.Nat.{ℕ}
-use mathlib.Core.List.{List, [], _∷_, _++_, headD}
+use mathlib.Core.List.{List, [], _∷_, headD}
 use Rattle.slices.specs.Compare.{beginsWith, sameBytes}
 use Rattle.slices.specs.Split.{join, split, pieces, indexOf}
 use Rattle.utf8.specs.Utf8.{table, begins, firstOf, charLength, charsLength, utf8Length, bits, codePoint}
@@ -16,7 +16,7 @@ use Rattle.repair.specs.Repair.{each, isOrdinary, isBar, identicalBars, repairO
 use Rattle.duration.specs.Duration.{digits, numberFrom, numberOf, exponentOf, gcdIn, writtenAt, written, counts, durationOf}
 use Rattle.pitch.specs.Pitch.{within, lowerCase, upperCase, lowerPitch, upperPitch, pitchOf, alteredBy, signs, twosComplement}
 use Rattle.notation.specs.Barline.{rightOf, leftOf, barlinesOf}
-use Rattle.notation.specs.Search.{contains, containsPair, trimStart}
+use Rattle.notation.specs.Bytes.{contains, containsPair, trimStart}
 use Rattle.items.specs.Items.{isLetter, joins, into, runs, itemOf, itemsOf, more, first, nextItem}
 use Rattle.token.specs.Outcome.{noteOf, withoutDigits, outcomeOf}
 use Rattle.token.specs.Scan.{scanItems}
@@ -39,11 +39,6 @@ use Rattle.reading.specs.Bars.{anyNoted, closing, keepLeft, decidingOr, 
 use Rattle.reading.specs.Notes.{noteRecord, addNote, inferredFor, readToken-at, readTokens, readData}
 use Rattle.reading.specs.Records.{noticeRepair, readLine}
 use Rattle.reading.specs.Text.{lastPart, lastClosing, lastRecords, finish, readLines, readText, sheetBytes, answerOf, bufferOf, Answer, refusal, accepted}
-
--- a text of lines, each with its LF
-abbrev pub textOf : List (List ℕ) → List ℕ
-textOf [] = []
-textOf (l ∷ ls) = l ++ (10 ∷ textOf ls)
 
 -- the bytes of an accepted text's sheet; number, line and figure of a refusal
 abbrev pub shown : Answer → List ℕ

@@ -6,6 +6,7 @@ use native.Mathlib.Omega.{arith}
 use mathlib.Core.List.{List, [], _∷_, map}
 use lib.ListN.{length, take, length-map}
 use borrow.Author.Tests.{ne-eqb}
+use Rattle.state.specs.Counts.{Same}
 use Rattle.lines.specs.Tokens.{tokensOf}
 use Rattle.spines.specs.Cells.{rowOf, spineOf}
 use Rattle.repair.specs.Repair.{repaired, repairedOf, repairNotice}
@@ -23,7 +24,6 @@ use Rattle.state.specs.View.{stateOf, ending, landed, told, toldRow}
 use Rattle.notes.specs.Spot.{Kept}
 use Rattle.state.proofs.ViewLaws.{landed-behind}
 use Rattle.writing.specs.Kept.{noticeOf, keptRecords, afterKept}
-use Rattle.writing.specs.Kept.{Same}
 use Rattle.writing.proofs.KeptLaws.{kept-same, notify-told}
 
 -- a result that was told, and a step behind it
@@ -86,14 +86,14 @@ module _ (r : Repair) (k at : ℕ) (line : List ℕ) (t : Tally) (out : List ℕ
 
   pub repair-told : {n len : ℕ} {u : Tally} {out' : List ℕ} → n ≡ repairNotice r → (n ≡ 0 → ⊥) → len ≡ length line
       → (out' ≡ laid out (t .at) (keptRecords t (noticeOf n k 0 (spanOf at len)) [])) × (u ≡ afterKept t (noticeOf n k 0 (spanOf at len)) [])
-      → ((cells parts : List ℕ) → told (Goes u) cells parts out' ≡ landed (goes (noticeRepair r k at line (stateOf cells parts t))) out (t .at)) × Same u t
+      → ((cells parts : List ℕ) → told (Goes u) cells parts out' ≡ landed (goes (noticeRepair r k at line (stateOf cells parts t))) out (t .at)) × Same t u
   repair-told {n} {len} {u} {out'} e z l w = (
     λ (cells parts : List ℕ).
         ap₂ (λ (x : Tally) (o : List ℕ). told (Goes x) cells parts o) (w .1) (w .0)
         ∙ notify-told cells parts t n k 0 (spanOf at len) out
         ∙ ap (λ (j : ℕ). landed (goes (notify n k 0 (spanOf at j) (stateOf cells parts t))) out (t .at)) l
         ∙ ap (λ (x : Result). landed (goes x) out (t .at)) (sym (repair-noticed r k at line (stateOf cells parts t) n (sym e) z)),
-    subst (λ (x : Tally). Same x t) (sym (w .1)) (kept-same t (noticeOf n k 0 (spanOf at len)) []),
+    subst (λ (x : Tally). Same t x) (sym (w .1)) (kept-same t (noticeOf n k 0 (spanOf at len)) []),
   )
 
 -- a step that keeps the active spines

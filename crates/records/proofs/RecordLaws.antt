@@ -5,6 +5,7 @@ use native.Mathlib.Omega.{arith}
 use mathlib.Core.Bool.{Bool, true, false, false≢true}
 use mathlib.Core.List.{List, []}
 use lib.ListN.{length, take}
+use Rattle.state.specs.Counts.{Same}
 use Rattle.lines.specs.Lines.{kindOf}
 use Rattle.lines.specs.Tokens.{tokensOf}
 use Rattle.lines.specs.declared.Kind.{Kind}
@@ -26,14 +27,13 @@ use Rattle.state.specs.declared.Step.the-variants.{Goes, Ends}
 use Rattle.state.specs.Lay.{laid}
 use Rattle.state.specs.View.{stateOf, Landed, stopped, landed, told, toldRow}
 use Rattle.writing.specs.Kept.{noticeOf, keptRecords, afterKept}
-use Rattle.writing.specs.Kept.{Same}
 use Rattle.writing.proofs.KeptLaws.{kept-same, notify-told}
 use Rattle.records.specs.Here.{Under, Here, Evenly}
 use Rattle.records.proofs.OutcomeLaws.{landed-told, none-left, some-left, ends-told, quiet-told}
 use Rattle.records.proofs.KindLaws.{row-length}
 
 -- the same counts of spines, parts and bars
-pub under-same : {row parts : List ℕ} {t u : Tally} → Same u t → Under row parts t → Under row parts u
+pub under-same : {row parts : List ℕ} {t u : Tally} → Same t u → Under row parts t → Under row parts u
 under-same {row} {parts} {t} {u} s h = record {
   ready = record {
     cells-long = subst (λ (n : ℕ). length (take n row) ≤ 256) (sym (s .active)) (h .ready .cells-long);
@@ -46,10 +46,10 @@ under-same {row} {parts} {t} {u} s h = record {
   row-long = h .row-long;
 }
 
-pub here-same : {line row parts : List ℕ} {t u : Tally} {number offset : ℕ} → Same u t → Here line row parts t number offset → Here line row parts u number offset
+pub here-same : {line row parts : List ℕ} {t u : Tally} {number offset : ℕ} → Same t u → Here line row parts t number offset → Here line row parts u number offset
 here-same s h = record { under = under-same s (h .under); short = h .short; numbered = h .numbered }
 
-pub even-same : {t u : Tally} {r : Repair} {found : Repaired} (line : List ℕ) → Same u t → found ≡ repairedOf (t .active) (tokensOf line) → found ≡ Even r → Evenly (u .active) line
+pub even-same : {t u : Tally} {r : Repair} {found : Repaired} (line : List ℕ) → Same t u → found ≡ repairedOf (t .active) (tokensOf line) → found ≡ Even r → Evenly (u .active) line
 even-same {t} {u} {r} line s e is = (r, ap (λ (n : ℕ). repairedOf n (tokensOf line)) (s .active) ∙ sym e ∙ is)
 
 module _ {row parts : List ℕ} {t : Tally} (h : Under row parts t) (line out : List ℕ) (number offset : ℕ) where
@@ -64,7 +64,7 @@ module _ {row parts : List ℕ} {t : Tally} (h : Under row parts t) (line out : 
       → (out' ≡ laid out (t .at) (keptRecords t (noticeOf 3 number 0 (spanOf offset len)) [])) × (u ≡ afterKept t (noticeOf 3 number 0 (spanOf offset len)) [])
       → toldRow (Ends u) row parts out' ≡ landed (onRow (rowOf cells) number offset line st) out (t .at)
   none-told u out' {len} z l w =
-      let same : Same u t = subst (λ (x : Tally). Same x t) (sym (w .1)) (kept-same t (noticeOf 3 number 0 (spanOf offset len)) []) in
+      let same : Same t u = subst (λ (x : Tally). Same t x) (sym (w .1)) (kept-same t (noticeOf 3 number 0 (spanOf offset len)) []) in
       let so : told (Goes u) cells parts out' ≡ landed (goes (notify 3 number 0 (spanOf offset (length line)) st)) out (t .at)
       = ap₂ (λ (x : Tally) (o : List ℕ). told (Goes x) cells parts o) (w .1) (w .0)
       ∙ notify-told cells parts t 3 number 0 (spanOf offset len) out
@@ -95,7 +95,7 @@ module _ {row parts : List ℕ} {t : Tally} (h : Under row parts t) (line out : 
         (by-found ∙ ap (λ (x : Repaired). byRepair x number offset line (placed offset (repaired (t .active) (tokensOf line))) st) e))
 
     pub even-told : {r : Repair} {kind : Kind} (u : Tally) (out' : List ℕ) (x : Landed) → found ≡ Even r → kind ≡ kindOf line
-        → ((cs ps : List ℕ) → told (Goes u) cs ps out' ≡ landed (goes (noticeRepair r number offset line (stateOf cs ps t))) out (t .at)) → Same u t
+        → ((cs ps : List ℕ) → told (Goes u) cs ps out' ≡ landed (goes (noticeRepair r number offset line (stateOf cs ps t))) out (t .at)) → Same t u
         → x ≡ landed (byKind kind number (placed offset (repaired (u .active) (tokensOf line))) (stateOf (take (u .active) row) parts u)) out' (u .at)
         → x ≡ landed (onRow (rowOf cells) number offset line st) out (t .at)
     even-told {r} {kind} u out' x e k noticed same so =

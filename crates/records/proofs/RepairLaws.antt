@@ -10,6 +10,7 @@ use lib.Seq.{take-all}
 use borrow.Author.Tests.{eqb-true, ne-eqb}
 use Rattle.slices.specs.Ascii.{ascii}
 use Rattle.slices.specs.Compare.{beginsWith, sameBytes}
+use Rattle.slices.proofs.TestLaws.{clash}
 use Rattle.lines.specs.Lines.{kindOf}
 use Rattle.lines.specs.Tokens.{tokensOf, isStar, isEmpty}
 use Rattle.lines.specs.declared.Kind.{Kind}
@@ -51,7 +52,7 @@ star-not-bar (x ∷ s) e = go (eqb x 42) refl e
   where
     go : (y : Bool) → eqb x 42 ≡ y → (y && true) ≡ true → (eqb x 61 && true) ≡ false
     go true q h = rw (ne-eqb x 61 (λ z. omega (arith, eqb-true x 42 q)))
-    go false q h = absurd (let w : _≡_ {A = ℕ} 0 1 = cc in omega arith)
+    go false q h = clash cc
 
 -- filled with stars only where each token is an ordinary interpretation
 stars-ordinary : (n : ℕ) (ts : List (List ℕ)) → repairOf n ts ≡ Stars → each isOrdinary ts ≡ true
@@ -60,12 +61,12 @@ stars-ordinary n ts =
     go (ltb n (length ts) && each isEmpty (drop n ts)) (ltb (length ts) n) (each isOrdinary ts) (ltb (length ts) n && (leb 2 (length ts) && identicalBars ts))
   where
     go : (a z o w : Bool) → cond a Cut (cond (z && o) Stars (cond w Bars Whole)) ≡ Stars → o ≡ true
-    go true z o w e = absurd (let q : _≡_ {A = ℕ} 0 1 = cc in omega arith)
+    go true z o w e = clash cc
     go false true true w e = refl
-    go false true false true e = absurd (let q : _≡_ {A = ℕ} 0 1 = cc in omega arith)
-    go false true false false e = absurd (let q : _≡_ {A = ℕ} 0 1 = cc in omega arith)
-    go false false o true e = absurd (let q : _≡_ {A = ℕ} 0 1 = cc in omega arith)
-    go false false o false e = absurd (let q : _≡_ {A = ℕ} 0 1 = cc in omega arith)
+    go false true false true e = clash cc
+    go false true false false e = clash cc
+    go false false o true e = clash cc
+    go false false o false e = clash cc
 
 -- ---- the tokens after the repair
 -- n of them, filled up with a token

@@ -21,7 +21,7 @@ ghost use Rattle.reading.specs.Notes.{readData};
 ghost use Rattle.reading.specs.Records.{noticeRepair, isRecord, byKind, onRow, onRecord, readLine};
 ghost use Rattle.state.specs.View.{stateOf, landed, told, toldRow};
 ghost use Rattle.state.specs.declared.Step.the-variants.{Goes};
-ghost use Rattle.writing.specs.Kept.{Same};
+ghost use Rattle.state.specs.Counts.{Same};
 ghost use Rattle.records.specs.Here.{Under, Here, Evenly};
 
 // The number of the notice that says of a repair; 0 is none.
@@ -47,7 +47,7 @@ fn notice_repair(
 ) -> Tally
     requires { ⌜ offset + length (now line) < 2 ^ 27 ⌝ }
     ensures told { λ r. ⌜ ((cells parts : List ℕ) → told (Goes r) cells parts (now (out .exit)) ≡ landed (goes (noticeRepair repair number offset (now (line .entry)) (stateOf cells parts tally))) (now (out .entry)) (tally .at)) ⌝ }
-    ensures same { λ r. ⌜ Same r tally ⌝ }
+    ensures same { λ r. ⌜ Same tally r ⌝ }
 {
     let n = repair_notice(repair);
     if n == 0 {

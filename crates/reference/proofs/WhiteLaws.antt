@@ -8,7 +8,7 @@ use native.Mathlib.Omega.{arith}
 use types.Run.{OneOf}
 use lib.Dec.{T, leb}
 use borrow.Author.Tests.{ne-eqb, lt-leb, leb-true}
-use Rattle.slices.specs.Finite.{all, below}
+use Rattle.slices.specs.Finite.{all, below, is-true}
 use Rattle.reference.specs.Trim.{white}
 
 abbrev keys : List ℕ
@@ -29,10 +29,6 @@ pub white-run : (from n : ℕ) → T (all (λ i. white (from + i)) n) → (c : �
 white-run from n t c low high =
     let at : from + (c - from) ≡ c = omega arith in
     sym (subst (λ (k : ℕ). white k ≡ true) at (is-true (white (from + (c - from))) (below (λ i. white (from + i)) n t (c - from) (omega arith))))
-  where
-    is-true : (b : Bool) → T b → b ≡ true
-    is-true true h = refl
-    is-true false h = absurd h
 
 -- no printed ASCII character is white
 pub white-ink : (c : ℕ) → 32 < c → c < 128 → white c ≡ false

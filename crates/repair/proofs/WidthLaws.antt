@@ -17,7 +17,7 @@ use Rattle.repair.specs.Record.{recordOf}
 use Rattle.repair.specs.declared.Repair.{Repair}
 use Rattle.repair.specs.declared.Repair.the-variants.{Whole, Cut, Stars, Bars}
 use Rattle.repair.specs.declared.Repaired.the-variants.{Uneven, Mixed, Even}
-use Rattle.slices.proofs.CompareLaws.{and-left, and-right}
+use Rattle.slices.proofs.TestLaws.{clash, and-left, and-right}
 
 -- what holds where a repair applies
 abbrev pub Applies : ℕ → List (List ℕ) → Repair → Type 0
@@ -28,8 +28,8 @@ Applies n ts Bars = (length ts < n) × (identicalBars ts ≡ true)
 
 -- neither 7 nor an even record is an uneven one
 passed : {k : ℕ} (r : Repair) (x : Bool) → cond x Mixed (Even r) ≡ Uneven k → ⊥
-passed r true u = let z : _≡_ {A = ℕ} 0 1 = cc in omega arith
-passed r false u = let z : _≡_ {A = ℕ} 0 1 = cc in omega arith
+passed r true u = clash cc
+passed r false u = clash cc
 
 module _ (n : ℕ) (ts : List (List ℕ)) where
   pub applies : Applies n ts (repairOf n ts)

@@ -6,7 +6,7 @@ use mathlib.Core.List.{List, [], _∷_}
 use mathlib.Core.Bool.{Bool, true, false, cond, not, _||_, or-false, or-assoc}
 use lib.Dec.{eqb, ltb, lit≤}
 use borrow.Author.Tests.{ltb-true, ltb-false}
-use Rattle.notation.specs.Search.{contains}
+use Rattle.notation.specs.Bytes.{contains}
 use Rattle.items.specs.declared.Item.{Item}
 use Rattle.items.specs.declared.Item.the-variants.{Digits, Letters, Blank, Mark}
 use Rattle.duration.specs.declared.Value.{Value}

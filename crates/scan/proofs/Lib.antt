@@ -6,5 +6,5 @@ pub mod SoundLaws
 pub mod MarkLaws
 pub mod PassLaws
 pub mod ScanLaws
-pub mod OddLaws
+pub mod UnknownLaws
 pub mod OutcomeLaws

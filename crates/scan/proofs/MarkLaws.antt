@@ -7,7 +7,7 @@ use mathlib.Core.Bool.{Bool, true, false, cond, _||_, or-false, or-assoc}
 use lib.Dec.{ltb}
 use lib.ListN.{length}
 use Rattle.slices.specs.Ascii.{ascii}
-use Rattle.notation.specs.Search.{contains}
+use Rattle.notation.specs.Bytes.{contains}
 use Rattle.items.specs.declared.Item.{Item}
 use Rattle.items.specs.declared.Item.the-variants.{Digits, Letters, Blank, Mark}
 use Rattle.token.specs.Token.{marks, anyOf, graceFrom, articulation, articulationsIn}

@@ -14,7 +14,7 @@ module _ (s : Scan) (inferred : Value) (r : Outcome) where
   pub not-given : s .given ≡ Nothing → r ≡ withoutDigits s inferred → r ≡ measured s inferred
   not-given g e = e ∙ ap (λ (x : Given). byGiven x s inferred) (sym g)
 
-  pub is-given : {v : Value} → s .given ≡ Length v → r ≡ noted false v s → r ≡ measured s inferred
+  pub is-given : {v : Value} → s .given ≡ Length v → r ≡ noted v s → r ≡ measured s inferred
   is-given g e = e ∙ ap (λ (x : Given). byGiven x s inferred) (sym g)
 
   pub heard-rest : s .silent ≡ false → s .bad ≡ false → s .rest ≡ true → r ≡ measured s inferred → r ≡ outcomeOf s inferred

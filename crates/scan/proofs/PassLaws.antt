@@ -1,4 +1,4 @@
--- The marks with a meaning, and those that say nothing, as the bits of two numbers; the signs by comparison.
+-- The known marks, and the unknown ones, as the bits of two numbers; the signs by comparison.
 use mathlib.Core.Path.{_≡_, refl, sym, ap, _∙_}
 use Prim.Native.Nat.{ℕ, _+_, _-_, _/_, _%_, _^_, _≤_, _<_}
 use native.Mathlib.Nat.{sub-zero}
@@ -8,10 +8,10 @@ use lib.Bits.{bitAnd, and-mask}
 use lib.Dec.{T, eqb}
 use borrow.Author.Tests.{ne-eqb}
 use Rattle.slices.specs.Finite.{all, below}
-use Rattle.notation.specs.Search.{contains}
+use Rattle.notation.specs.Bytes.{contains}
 use Rattle.pitch.specs.Pitch.{within}
 use Rattle.items.specs.Items.{isLetter}
-use Rattle.token.specs.Token.{signs, known, isOdd}
+use Rattle.token.specs.Token.{signs, known, isUnknown}
 
 agree : Bool → Bool → Bool
 agree true y = y
@@ -55,18 +55,18 @@ pub no-marks : (b : ℕ) → 128 ≤ b → b < 256 → false ≡ contains b know
 unfolding agree contains
 no-marks b l h = beyond isKnown false tt b l h
 
--- ---- the marks that say nothing
-pub low-odd : (b : ℕ) → b < 64 → eqb (bitAnd (17582224842730504191 / 2 ^ b) 1) 1 ≡ isOdd b
-unfolding right agree contains isOdd isLetter within
-low-odd b h = rw (sub-zero b) at (bits-are isOdd 17582224842730504191 0 tt b (omega arith) (omega arith))
+-- ---- the unknown marks
+pub low-unknown : (b : ℕ) → b < 64 → eqb (bitAnd (17582224842730504191 / 2 ^ b) 1) 1 ≡ isUnknown b
+unfolding right agree contains isUnknown isLetter within
+low-unknown b h = rw (sub-zero b) at (bits-are isUnknown 17582224842730504191 0 tt b (omega arith) (omega arith))
 
-pub high-odd : (b : ℕ) → 64 ≤ b → b < 128 → eqb (bitAnd (13828794142235159297 / 2 ^ (b - 64)) 1) 1 ≡ isOdd b
-unfolding right agree contains isOdd isLetter within
-high-odd b l h = bits-are isOdd 13828794142235159297 64 tt b l (omega arith)
+pub high-unknown : (b : ℕ) → 64 ≤ b → b < 128 → eqb (bitAnd (13828794142235159297 / 2 ^ (b - 64)) 1) 1 ≡ isUnknown b
+unfolding right agree contains isUnknown isLetter within
+high-unknown b l h = bits-are isUnknown 13828794142235159297 64 tt b l (omega arith)
 
-pub all-odd : (b : ℕ) → 128 ≤ b → b < 256 → true ≡ isOdd b
-unfolding agree contains isOdd isLetter within
-all-odd b l h = beyond isOdd true tt b l h
+pub all-unknown : (b : ℕ) → 128 ≤ b → b < 256 → true ≡ isUnknown b
+unfolding agree contains isUnknown isLetter within
+all-unknown b l h = beyond isUnknown true tt b l h
 
 -- ---- the signs
 pub is-sign : (b x : ℕ) → contains x signs ≡ true → b ≡ x → true ≡ contains b signs

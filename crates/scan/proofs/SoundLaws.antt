@@ -11,7 +11,7 @@ use Rattle.pitch.specs.declared.Pitch.the-variants.{At, Outside}
 use Rattle.items.specs.declared.Item.{Item}
 use Rattle.items.specs.declared.Item.the-variants.{Digits, Letters, Blank, Mark}
 use Rattle.token.specs.Token.{fits, passes, begun, signed, given, heard, signifiers}
-use Rattle.scan.specs.Steps.{stepSounds, oddly, sounded}
+use Rattle.scan.specs.Steps.{stepSounds, withUnknown, sounded}
 use Rattle.scan.specs.declared.Sounds.{Sounds}
 use Rattle.token.specs.declared.pitches.Sound.{Sound}
 use Rattle.token.specs.declared.pitches.Sound.the-variants.{Silence, Of}
@@ -22,19 +22,19 @@ pub signifiers-fold : (s : Sounds) (is : List Item) → fold stepSounds s is .si
 unfolding signifiers
 signifiers-fold s [] = omega arith
 signifiers-fold s (Digits v ∷ is) = signifiers-fold s is
-signifiers-fold s (Letters c n ∷ is) = go (fits (s .sounding) (pitchOf c n)) (signifiers-fold (sounded s) is) (signifiers-fold (oddly s 1) is)
+signifiers-fold s (Letters c n ∷ is) = go (fits (s .sounding) (pitchOf c n)) (signifiers-fold (sounded s) is) (signifiers-fold (withUnknown s 1) is)
   where
     go : (t : Bool) → fold stepSounds (sounded s) is .signifiers ≡ s .signifiers + length (signifiers true is)
-        → fold stepSounds (oddly s 1) is .signifiers ≡ s .signifiers + 1 + length (signifiers (s .sounding) is)
-        → fold stepSounds (cond t (sounded s) (oddly s 1)) is .signifiers ≡ s .signifiers + length (cond t (signifiers true is) (c ∷ signifiers (s .sounding) is))
+        → fold stepSounds (withUnknown s 1) is .signifiers ≡ s .signifiers + 1 + length (signifiers (s .sounding) is)
+        → fold stepSounds (cond t (sounded s) (withUnknown s 1)) is .signifiers ≡ s .signifiers + length (cond t (signifiers true is) (c ∷ signifiers (s .sounding) is))
     go true a b = a
     go false a b = omega arith
 signifiers-fold s (Blank ∷ is) = signifiers-fold _ is
-signifiers-fold s (Mark b ∷ is) = go (passes (s .sounding) b) (signifiers-fold s is) (signifiers-fold (oddly s 1) is)
+signifiers-fold s (Mark b ∷ is) = go (passes (s .sounding) b) (signifiers-fold s is) (signifiers-fold (withUnknown s 1) is)
   where
     go : (t : Bool) → fold stepSounds s is .signifiers ≡ s .signifiers + length (signifiers (s .sounding) is)
-        → fold stepSounds (oddly s 1) is .signifiers ≡ s .signifiers + 1 + length (signifiers (s .sounding) is)
-        → fold stepSounds (cond t s (oddly s 1)) is .signifiers ≡ s .signifiers + length (cond t (signifiers (s .sounding) is) (b ∷ signifiers (s .sounding) is))
+        → fold stepSounds (withUnknown s 1) is .signifiers ≡ s .signifiers + 1 + length (signifiers (s .sounding) is)
+        → fold stepSounds (cond t s (withUnknown s 1)) is .signifiers ≡ s .signifiers + length (cond t (signifiers (s .sounding) is) (b ∷ signifiers (s .sounding) is))
     go true a e = a
     go false a e = omega arith
 
@@ -92,7 +92,7 @@ either false s a b p q = q
 pub slow : (s : Sounds) (i : Item) → Slow s (stepSounds s i)
 slow s (Digits v) = record { pitches = omega arith; signifiers = omega arith }
 slow s (Letters c n) =
-    either (fits (s .sounding) (pitchOf c n)) s (sounded s) (oddly s 1) (record { pitches = omega arith; signifiers = omega arith }) (record { pitches = omega arith; signifiers = omega arith })
+    either (fits (s .sounding) (pitchOf c n)) s (sounded s) (withUnknown s 1) (record { pitches = omega arith; signifiers = omega arith }) (record { pitches = omega arith; signifiers = omega arith })
 slow s Blank = record { pitches = omega arith; signifiers = omega arith }
 slow s (Mark b) =
-    either (passes (s .sounding) b) s s (oddly s 1) (record { pitches = omega arith; signifiers = omega arith }) (record { pitches = omega arith; signifiers = omega arith })
+    either (passes (s .sounding) b) s s (withUnknown s 1) (record { pitches = omega arith; signifiers = omega arith }) (record { pitches = omega arith; signifiers = omega arith })

@@ -6,7 +6,7 @@ use mathlib.Core.Bool.{Bool, true, false, cond, not, _||_}
 use lib.Dec.{eqb, ltb}
 use lib.ListN.{length, getD}
 use Rattle.slices.specs.Ascii.{ascii}
-use Rattle.notation.specs.Search.{contains}
+use Rattle.notation.specs.Bytes.{contains}
 use Rattle.pitch.specs.Pitch.{pitchOf}
 use Rattle.items.specs.declared.Item.{Item}
 use Rattle.items.specs.declared.Item.the-variants.{Digits, Letters, Blank, Mark}
@@ -14,17 +14,17 @@ use Rattle.duration.specs.declared.Value.{Value}
 use Rattle.token.specs.declared.scan.Given.{Given}
 use Rattle.token.specs.declared.scan.Given.the-variants.{Nothing, Length}
 use Rattle.token.specs.declared.scan.Scan.{Scan}
-use Rattle.token.specs.Token.{graceBy, articulation, fits, passes, isOdd}
+use Rattle.token.specs.Token.{graceBy, articulation, fits, passes, isUnknown}
 use Rattle.scan.specs.declared.Lengths.{Lengths}
 use Rattle.scan.specs.declared.First.{First}
 use Rattle.scan.specs.declared.Sounds.{Sounds}
 use Rattle.scan.specs.declared.Marks.{Marks}
 
--- from one index to another there are only marks that say nothing
-pub record Odds (token : List ℕ) (from end : ℕ) : Type 0 where
+-- from one index to another there are only unknown marks
+pub record Unknowns (token : List ℕ) (from end : ℕ) : Type 0 where
   pub on : from < end
   pub high : end ≤ length token
-  pub odd : (j : ℕ) → from ≤ j → j < end → isOdd (getD token j 0) ≡ true
+  pub unknown : (j : ℕ) → from ≤ j → j < end → isUnknown (getD token j 0) ≡ true
 
 -- ---- one item more
 abbrev pub stepLengths : Lengths → Item → Lengths
@@ -53,17 +53,17 @@ stepFirst f (Letters c n) = cond (f .over) f (insideFirst (f .given) (f .dots) (
 stepFirst f Blank = endedFirst f
 stepFirst f (Mark b) = cond (f .over) f (insideFirst (f .given) (dotsBy (f .dots) b) (f .rest || eqb b 114))
 
-abbrev pub oddly : Sounds → ℕ → Sounds
-oddly s n = record { sounding = s .sounding; pitches = s .pitches; signifiers = s .signifiers + n }
+abbrev pub withUnknown : Sounds → ℕ → Sounds
+withUnknown s n = record { sounding = s .sounding; pitches = s .pitches; signifiers = s .signifiers + n }
 
 abbrev pub sounded : Sounds → Sounds
 sounded s = record { sounding = true; pitches = s .pitches + 1; signifiers = s .signifiers }
 
 abbrev pub stepSounds : Sounds → Item → Sounds
 stepSounds s (Digits v) = s
-stepSounds s (Letters c n) = cond (fits (s .sounding) (pitchOf c n)) (sounded s) (oddly s 1)
+stepSounds s (Letters c n) = cond (fits (s .sounding) (pitchOf c n)) (sounded s) (withUnknown s 1)
 stepSounds s Blank = record { sounding = false; pitches = s .pitches; signifiers = s .signifiers }
-stepSounds s (Mark b) = cond (passes (s .sounding) b) s (oddly s 1)
+stepSounds s (Mark b) = cond (passes (s .sounding) b) s (withUnknown s 1)
 
 abbrev pub stepMarks : Marks → Item → Marks
 stepMarks m (Digits v) = m

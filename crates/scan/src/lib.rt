@@ -12,11 +12,11 @@ ghost use Prim.Native.Nat.{_+_, _≤_, _<_};
 ghost use lib.Dec.{eqb, ltb};
 ghost use lib.ListN.{length, getD};
 ghost use mathlib.Core.List.{[], _∷_};
-ghost use Rattle.notation.specs.Search.{contains};
+ghost use Rattle.notation.specs.Bytes.{contains};
 ghost use Rattle.pitch.specs.Pitch.{pitchOf};
-ghost use Rattle.token.specs.Token.{fits, signs, known, passes, isOdd, graceBy, articulation};
+ghost use Rattle.token.specs.Token.{fits, signs, known, passes, isUnknown, graceBy, articulation};
 ghost use Rattle.token.specs.Scan.{scanOf};
-ghost use Rattle.scan.specs.Steps.{Odds, stepLengths, orGiven, dotsBy, insideFirst, endedFirst, stepFirst, stepSounds, stepMarks, oddly, noFirst, noMarks, collected};
+ghost use Rattle.scan.specs.Steps.{Unknowns, stepLengths, orGiven, dotsBy, insideFirst, endedFirst, stepFirst, stepSounds, stepMarks, withUnknown, noFirst, noMarks, collected};
 
 // Whether digits stand before in the sub-token, and right before; whether a length was bad.
 pub struct Lengths {
@@ -51,22 +51,12 @@ pub struct Marks {
     pub articulations: usize,
 }
 
-// Whether one of two holds.
-fn either(a: bool, b: bool) -> bool
-    ensures { λ r. ⌜ r ≡ (a || b) ⌝ }
-{
-    if a {
-        return true;
-    }
-    b
-}
-
 // Whether a length is bad behind a mark.
 fn bad_mark(l: Lengths, b: u8) -> bool
     ensures { λ r. ⌜ r ≡ cond (eqb b 37) (l .bad || l .behind) (l .bad) ⌝ }
 {
     if b == b'%' {
-        return either(l.bad, l.behind);
+        return slices::either(l.bad, l.behind);
     }
     l.bad
 }
@@ -77,7 +67,7 @@ fn step_lengths(l: Lengths, item: Item) -> Lengths
 {
     match item {
         Item::Digits(_) => {
-            let bad = either(l.bad, l.had);
+            let bad = slices::either(l.bad, l.had);
             return Lengths {
                 had: true,
                 behind: true,
@@ -191,7 +181,7 @@ fn step_first(f: First, item: Item) -> First
                 return f;
             }
             let dots = dots_by(f.dots, b);
-            let rest = either(f.rest, b == b'r');
+            let rest = slices::either(f.rest, b == b'r');
             return inside(given, dots, rest);
         }
     }
@@ -244,32 +234,32 @@ pub fn is_sign(b: u8) -> bool
     false
 }
 
-// The bytes that say nothing, a bit each: those below 64, and those from 64 to 127.
-const LOW_ODD: u64 = 0xF4009C56FFFFFFFF;
+// The unknown marks, a bit each: those below 64, and those from 64 to 127.
+const LOW_UNKNOWN: u64 = 0xF4009C56FFFFFFFF;
 
-const HIGH_ODD: u64 = 0xBFE9BF0117EDEB01;
+const HIGH_UNKNOWN: u64 = 0xBFE9BF0117EDEB01;
 
-// Whether a byte is a mark that says nothing.
-pub fn is_odd(b: u8) -> bool
-    ensures { λ r. ⌜ r ≡ isOdd b ⌝ }
+// Whether a byte is an unknown mark.
+pub fn is_unknown(b: u8) -> bool
+    ensures { λ r. ⌜ r ≡ isUnknown b ⌝ }
 {
     if b < 64 {
-        return (LOW_ODD >> b) & 1 == 1;
+        return (LOW_UNKNOWN >> b) & 1 == 1;
     }
     if b < 128 {
-        return (HIGH_ODD >> (b - 64)) & 1 == 1;
+        return (HIGH_UNKNOWN >> (b - 64)) & 1 == 1;
     }
     true
 }
 
-// The end of the marks that say nothing and begin at an index.
-pub fn odd_end(token: &[u8], from: usize) -> usize
-    requires { ⌜ (from < length (now token)) × (isOdd (getD (now token) from 0) ≡ true) ⌝ }
-    ensures { λ r. ⌜ Odds (now (token .entry)) from r ⌝ }
+// The end of the unknown marks that begin at an index.
+pub fn unknown_end(token: &[u8], from: usize) -> usize
+    requires { ⌜ (from < length (now token)) × (isUnknown (getD (now token) from 0) ≡ true) ⌝ }
+    ensures { λ r. ⌜ Unknowns (now (token .entry)) from r ⌝ }
 {
     let mut e = from + 1;
     while e < token.len() {
-        if is_odd(token[e]) {
+        if is_unknown(token[e]) {
             e += 1;
         } else {
             return e;
@@ -289,9 +279,9 @@ pub fn passes(sounding: bool, b: u8) -> bool
 }
 
 // Some signifiers more.
-fn oddly(s: Sounds, n: usize) -> Sounds
+fn with_unknown(s: Sounds, n: usize) -> Sounds
     requires { ⌜ s .signifiers + n ≤ 18446744073709551615 ⌝ }
-    ensures { λ r. ⌜ r ≡ oddly s n ⌝ }
+    ensures { λ r. ⌜ r ≡ withUnknown s n ⌝ }
 {
     Sounds {
         sounding: s.sounding,
@@ -317,7 +307,7 @@ fn step_sounds(s: Sounds, item: Item) -> Sounds
                     signifiers: s.signifiers,
                 };
             }
-            return oddly(s, 1);
+            return with_unknown(s, 1);
         }
         Item::Blank => {
             return Sounds {
@@ -330,7 +320,7 @@ fn step_sounds(s: Sounds, item: Item) -> Sounds
             if passes(s.sounding, b) {
                 return s;
             }
-            return oddly(s, 1);
+            return with_unknown(s, 1);
         }
     }
 }
@@ -512,11 +502,11 @@ pub fn scan_token(token: &[u8]) -> Scan
             continue;
         }
         let item = Item::Mark(b);
-        if is_odd(b) {
-            let end = odd_end(token, i);
+        if is_unknown(b) {
+            let end = unknown_end(token, i);
             lengths = step_lengths(lengths, item);
             first = step_first(first, item);
-            sounds = oddly(sounds, end - i);
+            sounds = with_unknown(sounds, end - i);
             i = end;
             continue;
         }

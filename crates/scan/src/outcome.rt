@@ -5,7 +5,7 @@ use token::outcome::Outcome;
 use token::scan::Given;
 use token::scan::Scan;
 ghost use mathlib.Core.Path.{_≡_};
-ghost use Rattle.token.specs.Outcome.{noteOf, noted, fromPeers, withoutDigits, measured, outcomeOf};
+ghost use Rattle.token.specs.Outcome.{noteOf, byValue, withoutDigits, measured, outcomeOf};
 
 // The note of a token.
 fn note_of(inferred: bool, value: u8, actual: u8, normal: u8, s: Scan) -> Note
@@ -45,12 +45,12 @@ fn note_of(inferred: bool, value: u8, actual: u8, normal: u8, s: Scan) -> Note
     }
 }
 
-// A token of a length that was read or set; Missing gives 19.
-fn noted(inferred: bool, v: Value, s: Scan) -> Outcome
-    ensures { λ r. ⌜ r ≡ noted inferred v s ⌝ }
+// A note of a value; the notice `number` where it is Missing.
+fn by_value(number: u8, inferred: bool, v: Value, s: Scan) -> Outcome
+    ensures { λ r. ⌜ r ≡ byValue number inferred v s ⌝ }
 {
     match v {
-        Value::Missing => Outcome::Unread(19),
+        Value::Missing => Outcome::Unread(number),
         Value::Plain(value) => Outcome::Heard(note_of(inferred, value, 0, 0, s)),
         Value::Tuplet {
             value,
@@ -60,29 +60,14 @@ fn noted(inferred: bool, v: Value, s: Scan) -> Outcome
     }
 }
 
-// A token whose length is that of its peers, Missing where they give none.
-fn from_peers(v: Value, s: Scan) -> Outcome
-    ensures { λ r. ⌜ r ≡ fromPeers v s ⌝ }
-{
-    match v {
-        Value::Missing => Outcome::Unread(21),
-        Value::Plain(value) => Outcome::Heard(note_of(true, value, 0, 0, s)),
-        Value::Tuplet {
-            value,
-            actual,
-            normal,
-        } => Outcome::Heard(note_of(true, value, actual, normal, s)),
-    }
-}
-
 // A token without digits in its first sub-token.
 fn without_digits(s: Scan, inferred: Value) -> Outcome
     ensures { λ r. ⌜ r ≡ withoutDigits s inferred ⌝ }
 {
     if s.grace == 0 {
-        return from_peers(inferred, s);
+        return by_value(21, true, inferred, s);
     }
-    noted(false, Value::Plain(5), s)
+    by_value(19, false, Value::Plain(5), s)
 }
 
 // A token with a pitch or a rest.
@@ -92,7 +77,7 @@ fn measured(s: Scan, inferred: Value) -> Outcome
     let given = s.given;
     match given {
         Given::Nothing => without_digits(s, inferred),
-        Given::Length(v) => noted(false, v, s),
+        Given::Length(v) => by_value(19, false, v, s),
     }
 }
 

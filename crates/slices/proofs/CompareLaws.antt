@@ -16,14 +16,6 @@ and-not : (a : Bool) {b : Bool} → b ≡ false → (a && b) ≡ false
 and-not true q = q
 and-not false q = refl
 
-pub and-left : (a b : Bool) → (a && b) ≡ true → a ≡ true
-and-left true b e = refl
-and-left false b e = e
-
-pub and-right : (a b : Bool) → (a && b) ≡ true → b ≡ true
-and-right true b e = e
-and-right false b e = cc
-
 -- a shorter list doesn't begin with a longer one
 pub begins-short : (p s : List ℕ) → length s < length p → beginsWith p s ≡ false
 unfolding beginsWith

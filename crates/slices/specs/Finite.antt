@@ -1,11 +1,15 @@
 -- A test that is computed once over a finite range holds at each place of it.
-use mathlib.Core.Path.{_∙_, subst, sym}
+use mathlib.Core.Path.{_∙_, subst, sym, _≡_, refl}
 use mathlib.Core.Bool.{Bool, true, false, _&&_}
 use mathlib.Core.List.{List, [], _∷_}
 use Prim.Native.Nat.{ℕ, zero, suc, _+_, _<_}
 use native.Mathlib.Nat.{add-zero, zero-add, add-suc, suc-add, le-of-suc-le-suc, not-suc-le-zero}
 use lib.Dec.{T}
 use lib.ListN.{length, getD}
+
+pub is-true : (t : Bool) → T t → t ≡ true
+is-true true h = refl
+is-true false h = absurd h
 
 pub both-left : (a b : Bool) → T (a && b) → T a
 both-left true b t = tt

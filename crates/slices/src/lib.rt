@@ -1,5 +1,6 @@
-// Slices of bytes: searched, compared, and written at their start.
+// Slices of bytes: searched, compared, and written at their start; and two tests as one.
 ghost use mathlib.Core.Path.{_≡_};
+ghost use mathlib.Core.Bool.{_||_};
 ghost use Prim.Native.Nat.{_≤_};
 ghost use lib.ListN.{length};
 ghost use Rattle.slices.specs.Split.{indexOf, pieceAt};
@@ -72,4 +73,14 @@ pub fn put(out: &mut [u8], bytes: &[u8])
         out[i] = bytes[i];
         i += 1;
     }
+}
+
+// Whether one of two holds.
+pub fn either(a: bool, b: bool) -> bool
+    ensures { λ r. ⌜ r ≡ (a || b) ⌝ }
+{
+    if a {
+        return true;
+    }
+    b
 }

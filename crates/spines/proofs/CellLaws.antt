@@ -9,6 +9,7 @@ use lib.ListN.{length, getD, take, drop, length-map}
 use lib.Seq.{take-suc, drop-cons, getD-drop}
 use native.Mathlib.Numerals.{add-one}
 use borrow.Author.Tests.{eq-eqb, ne-eqb, lt-ltb, le-ltb, eqb-false, ltb-true, ltb-false}
+use Rattle.slices.proofs.TestLaws.{clash}
 use Rattle.paths.specs.Row.{Spine, line, branch, outside, branchFrom}
 use Rattle.paths.specs.Text.{spineAt}
 use Rattle.spines.specs.Cells.{spineOf, rowOf, isBranch}
@@ -84,7 +85,7 @@ unfolding spineOf
 branch-part c h = go (eqb (c / 8) 0) refl h
   where
     go : (b : Bool) → eqb (c / 8) 0 ≡ b → isBranch (cond b outside (cond (ltb (c % 8) 4) (line (c / 8 - 1) (c % 8)) (branch (c / 8 - 1)))) ≡ true → 0 < c / 8
-    go true e g = let z : _≡_ {A = ℕ} 0 1 = cc in omega arith
+    go true e g = clash cc
     go false e g = let n : (c / 8 ≡ 0 → ⊥) = eqb-false (c / 8) 0 e in omega arith
 
 pub branch-spine : (c : ℕ) → isBranch (spineOf c) ≡ true → spineOf c ≡ branch (c / 8 - 1)

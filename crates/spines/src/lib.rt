@@ -3,7 +3,6 @@ use paths::PathToken;
 ghost use mathlib.Core.Path.{_≡_};
 ghost use Prim.Native.Nat.{min, _*_, _≤_, _<_};
 ghost use lib.ListN.{length, getD, take};
-ghost use Rattle.paths.specs.Token.{isExchange};
 ghost use Rattle.paths.specs.Row.{nextRow};
 ghost use Rattle.spines.specs.Cells.{rowOf};
 ghost use Rattle.spines.specs.Table.{activeAt, cellOf};
@@ -35,20 +34,6 @@ fn at_or(s: &[u16], i: usize, d: u16) -> u16
     ensures { λ r. ⌜ r ≡ getD (now (s .entry)) i d ⌝ }
 {
     if i < s.len() { s[i] } else { d }
-}
-
-// Whether a token is `*x`.
-fn is_exchange(t: PathToken) -> bool
-    ensures { λ r. ⌜ r ≡ isExchange t ⌝ }
-{
-    match t {
-        PathToken::Exchange => true,
-        PathToken::Split => false,
-        PathToken::Join => false,
-        PathToken::End => false,
-        PathToken::Add => false,
-        PathToken::Other => false,
-    }
 }
 
 // The token that begins at `from`, where n are still wanted; an ordinary one where the line has none left.
@@ -117,7 +102,7 @@ fn walk_row(line: &[u8], row: &[u16], next: &mut [u16]) -> usize
         i += 1;
         let ahead = token_at(line, from, row.len() - i);
         let look = ahead.0;
-        let e = emit(left, t, is_exchange(look), b, c, at_or(row, i, c));
+        let e = emit(left, t, paths::is_exchange(look), b, c, at_or(row, i, c));
         next[n] = e.1;
         next[n + 1] = e.2;
         n += e.0;

@@ -1,5 +1,5 @@
 -- One column: what an interpretation comes to in the flat state.
-use mathlib.Core.Path.{_≡_, refl, sym, ap, ap₂, _∙_}
+use mathlib.Core.Path.{_≡_, refl, sym, ap, ap₂, _∙_, subst}
 use Prim.Native.Nat.{ℕ, _+_, _-_, _*_, _/_, _%_, _≤_, _<_}
 use native.Mathlib.Omega.{arith}
 use mathlib.Core.Bool.{Bool, cond}
@@ -7,6 +7,8 @@ use mathlib.Core.List.{List, []}
 use lib.Dec.{eqb}
 use lib.ListN.{length, drop, set, getD}
 use lib.Seq.{getD-take, getD-drop, set-getD}
+use Rattle.state.proofs.CountLaws.{same, same-same}
+use Rattle.state.specs.Counts.{Same}
 use Rattle.interpretation.specs.Interpretation.{interpretationOf}
 use Rattle.interpretation.specs.declared.Interpretation.{Interpretation}
 use Rattle.interpretation.specs.declared.Interpretation.the-variants.{Nothing, Clef, Key, Meter, Symbol, Tempo, Name, ShortName, Mode, Notice}
@@ -31,7 +33,7 @@ use Rattle.writing.specs.Kept.{noticeOf, keptRecords, afterKept}
 use Rattle.writing.proofs.KeptLaws.{notify-told, kept-same}
 use Rattle.tandem.specs.Change.{changed}
 use borrow.Author.Tests.{eq-eqb, ne-eqb}
-use Rattle.stars.specs.Columns.{tokenOf, withFirst, tempoed, noticed, Held, Comes, Fit}
+use Rattle.stars.specs.Columns.{tokenOf, withFirst, tempoed, noticed, Comes, Fit}
 
 pub noted-is : (n p : ℕ) (s : List ℕ) → p < n → eqb (getD s (p * 35 + 10) 0) 1 ≡ getD (partsOf n s) p (freshPart p) .noted
 unfolding partOf
@@ -52,7 +54,7 @@ pub comes-quiet : {f : State → Result} {parts out : List ℕ} {t : Tally} → 
 unfolding laid behind
 comes-quiet {f} {parts} {out} {t} e = record {
   same = λ (cells : List ℕ). ap (λ (x : Result). landed (goes x) out (t .at)) (sym (e (stateOf cells parts t)));
-  held = record { active = refl; parts = refl; bars = refl };
+  held = same t;
 }
 
 pub comes-notice : {f : State → Result} {parts out out' : List ℕ} {t r : Tally} (number k column : ℕ) (value : Span)
@@ -61,26 +63,22 @@ pub comes-notice : {f : State → Result} {parts out out' : List ℕ} {t r : Tal
 comes-notice {f} {parts} {out} {out'} {t} {r} number k column value w e = comes-as e (record {
   same = λ (cells : List ℕ).
       ap₂ (λ (x : Tally) (o : List ℕ). told (Goes x) cells parts o) (w .1) (w .0) ∙ notify-told cells parts t number k column value out;
-  held = record {
-    active = ap (λ (x : Tally). x .active) (w .1) ∙ kept-same t (noticeOf number k column value) [] .active;
-    parts = ap (λ (x : Tally). x .parts) (w .1) ∙ kept-same t (noticeOf number k column value) [] .parts;
-    bars = ap (λ (x : Tally). x .bars) (w .1) ∙ kept-same t (noticeOf number k column value) [] .bars;
-  };
+  held = subst (Same t) (sym (w .1)) (kept-same t (noticeOf number k column value) []);
 })
 
 -- ---- an interpretation in a line
 
-tempo-held : (w : Interpretation) (t : Tally) → Held (tempoed w t) t
-tempo-held Nothing t = record { active = refl; parts = refl; bars = refl }
-tempo-held (Clef x) t = record { active = refl; parts = refl; bars = refl }
-tempo-held (Key x) t = record { active = refl; parts = refl; bars = refl }
-tempo-held (Meter x y) t = record { active = refl; parts = refl; bars = refl }
-tempo-held (Symbol x) t = record { active = refl; parts = refl; bars = refl }
+tempo-held : (w : Interpretation) (t : Tally) → Same t (tempoed w t)
+tempo-held Nothing t = same t
+tempo-held (Clef x) t = same t
+tempo-held (Key x) t = same t
+tempo-held (Meter x y) t = same t
+tempo-held (Symbol x) t = same t
 tempo-held (Tempo x) t = record { active = refl; parts = refl; bars = refl }
-tempo-held Name t = record { active = refl; parts = refl; bars = refl }
-tempo-held ShortName t = record { active = refl; parts = refl; bars = refl }
-tempo-held (Mode x) t = record { active = refl; parts = refl; bars = refl }
-tempo-held (Notice x) t = record { active = refl; parts = refl; bars = refl }
+tempo-held Name t = same t
+tempo-held ShortName t = same t
+tempo-held (Mode x) t = same t
+tempo-held (Notice x) t = same t
 
 -- the parts changed, the first tempo, the notice: what is applied
 by-what : (w : Interpretation) (k j p : ℕ) (tok : Token) (cells parts parts' out : List ℕ) (t : Tally)
@@ -112,7 +110,6 @@ pub apply-comes : (bytes : List ℕ) (p k j at : ℕ) {parts parts' out out' : L
     → ((ps : List ℕ) → Comes (noticed what k j (spanOf at (length bytes))) ps out t ps out' r)
     → Comes (interpret (line p 0) k j (tokenOf at bytes)) parts out tally parts' out' r
 apply-comes bytes p k j at {parts} {parts'} {out} {out'} {tally} {t} {r} {what} {noted} low top n w c f g =
-    let held : Held (tempoed what tally) tally = tempo-held what tally in
     record {
       same = λ (cells : List ℕ).
           g parts' .same cells
@@ -120,11 +117,7 @@ apply-comes bytes p k j at {parts} {parts'} {out} {out'} {tally} {t} {r} {what} 
           ∙ by-what what k j p (tokenOf at bytes) cells parts parts' out tally (c (tally .parts) top low)
           ∙ ap (λ (x : Interpretation). landed (goes (applied x k j (tokenOf at bytes) p (partAt (stateOf cells parts tally) p) (stateOf cells parts tally))) out (tally .at))
           (w ∙ ap (interpretationOf bytes) (n (tally .parts) low));
-      held = record {
-        active = g parts' .held .active ∙ ap (λ (x : Tally). x .active) f ∙ held .active;
-        parts = g parts' .held .parts ∙ ap (λ (x : Tally). x .parts) f ∙ held .parts;
-        bars = g parts' .held .bars ∙ ap (λ (x : Tally). x .bars) f ∙ held .bars;
-      };
+      held = same-same (subst (Same tally) (sym f) (tempo-held what tally)) (g parts' .held);
     }
 
 -- ---- by the column's cell

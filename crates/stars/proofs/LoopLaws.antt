@@ -11,6 +11,8 @@ use lib.Seq.{drop-drop, getD-drop, length-take-le}
 use Rattle.slices.specs.Ascii.{ascii}
 use Rattle.slices.specs.Split.{pieces}
 use Rattle.slices.proofs.SplitLaws.{all-pieces, no-piece}
+use Rattle.state.proofs.CountLaws.{same, same-same}
+use Rattle.state.specs.Counts.{Same}
 use Rattle.lines.specs.Tokens.{tokensOf}
 use Rattle.lines.proofs.PieceLaws.{Piece}
 use Rattle.interpretation.specs.Interpretation.{interpretationOf}
@@ -31,7 +33,7 @@ use Rattle.state.specs.Lay.{laid, behind}
 use Rattle.state.specs.Ready.{Ready}
 use Rattle.state.specs.View.{Landed, stopped, going, ending, stateOf, landed, told}
 use Rattle.state.proofs.LayLaws.{laid-append, behind-append}
-use Rattle.stars.specs.Columns.{filled, tokenOf, columnsOf, Held, Comes, Fit}
+use Rattle.stars.specs.Columns.{filled, tokenOf, columnsOf, Comes, Fit}
 use Rattle.stars.proofs.PairLaws.{tokens-at, right-all, left-first, left-next}
 use Rattle.spines.proofs.RecordLaws.{star-other}
 
@@ -111,7 +113,7 @@ pub record Loop (text cells : List ℕ) (number offset : ℕ) (parts₀ out₀ :
   pub near : from ≤ length text + 1
   pub long : length parts ≡ length parts₀
   pub kept : length out ≡ length out₀
-  pub held : Held t tally
+  pub held : Same tally t
   pub tokens : drop i (pathsOf text cells) ≡ pathTokens (length cells - i) (pieces 9 from text)
   pub pairs : left ≡ exchangesLeft (pathsOf text cells) i
   pub same : landed (goes (columnsOf text cells number offset (stateOf cells parts₀ tally))) out₀ (tally .at)
@@ -127,7 +129,7 @@ loop-first {text} {cells} {number} {offset} {parts} {out} {tally} = record {
   near = omega arith;
   long = refl;
   kept = refl;
-  held = record { active = refl; parts = refl; bars = refl };
+  held = same tally;
   tokens = path-filled (length cells) (tokensOf text)
       ∙ ap₂ (λ (k : ℕ) (ts : List (List ℕ)). pathTokens k ts) (sym (zero-off (length cells))) (sym (all-pieces 9 text));
   pairs = left-first (pathsOf text cells);
@@ -200,11 +202,7 @@ module _ {text cells : List ℕ} {number offset : ℕ} {parts₀ out₀ : List �
       near = omega (arith, piece .high);
       long = p ∙ inv .long;
       kept = o ∙ inv .kept;
-      held = record {
-        active = comes .held .active ∙ inv .held .active;
-        parts = comes .held .parts ∙ inv .held .parts;
-        bars = comes .held .bars ∙ inv .held .bars;
-      };
+      held = same-same (inv .held) (comes .held);
       tokens = sym (drop-drop 1 i (pathsOf text cells)) ∙ ap (drop 1) (inv .tokens)
           ∙ ap (drop 1) (tokens-at {n = length cells - i} (omega arith) piece)
           ∙ ap (λ (k : ℕ). pathTokens k (pieces 9 (e + 1) text)) (omega arith);

@@ -2,7 +2,7 @@
 use mathlib.Core.Path.{_≡_, refl, sym, ap, _∙_}
 use Prim.Native.Nat.{ℕ, zero, suc, _+_, _-_, _<_}
 use native.Mathlib.Omega.{arith}
-use mathlib.Core.Bool.{Bool, true, false, _&&_, not}
+use mathlib.Core.Bool.{Bool, true, false, _&&_, not, and-true}
 use mathlib.Core.List.{List, [], _∷_}
 use lib.ListN.{length, take, drop}
 use Rattle.slices.specs.Split.{pieces}
@@ -72,13 +72,9 @@ right-is {n} {from} {e} {text} {left} {x} {r} low piece l p q s =
 
 -- ---- among all
 
-and-true : (b : Bool) → b ≡ (b && true)
-and-true true = refl
-and-true false = refl
-
 pub right-all : (ps : List PathToken) (i : ℕ) → exchangesRight ps i ≡ (isExchange (tokenAt ps i) && isExchange (tokenAt ps (suc i)) && not (exchangesLeft ps i))
 unfolding exchangesRight exchangesLeft
-right-all ps zero = and-true (isExchange (tokenAt ps 0) && isExchange (tokenAt ps 1))
+right-all ps zero = sym (and-true (isExchange (tokenAt ps 0) && isExchange (tokenAt ps 1)))
 right-all ps (suc i) = refl
 
 pub left-first : (ps : List PathToken) → false ≡ exchangesLeft ps 0

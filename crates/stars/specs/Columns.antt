@@ -6,6 +6,7 @@ use mathlib.Core.List.{List, _++_, map}
 use lib.Dec.{eqb}
 use lib.ListN.{length, take, replicate}
 use Rattle.slices.specs.Ascii.{ascii}
+use Rattle.state.specs.Counts.{Same}
 use Rattle.lines.specs.Tokens.{tokensOf}
 use Rattle.paths.specs.Row.{line}
 use Rattle.paths.specs.Token.{pathToken}
@@ -73,16 +74,10 @@ noticed ShortName k j v st = quiet st
 noticed (Mode mode) k j v st = quiet st
 noticed (Notice n) k j v st = notify n k j v st
 
--- the counts that a column leaves as they are
-pub record Held (r t : Tally) : Type 0 where
-  pub active : r .active ≡ t .active
-  pub parts : r .parts ≡ t .parts
-  pub bars : r .bars ≡ t .bars
-
 -- from parts, buffer and counts to others the code has done what a piece of the reading does, whatever the row
 pub record Comes (f : State → Result) (parts out : List ℕ) (t : Tally) (parts' out' : List ℕ) (r : Tally) : Type 0 where
   pub same : (cells : List ℕ) → told (Goes r) cells parts' out' ≡ landed (goes (f (stateOf cells parts t))) out (t .at)
-  pub held : Held r t
+  pub held : Same t r
 
 -- what keeps the numbers of a column small
 pub record Fit (cell : ℕ) (parts token : List ℕ) (t : Tally) (offset : ℕ) : Type 0 where

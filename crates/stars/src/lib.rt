@@ -4,7 +4,7 @@ use paths::PathToken;
 use state::Step;
 use state::Tally;
 ghost use mathlib.Core.Path.{_≡_};
-ghost use mathlib.Core.Bool.{_&&_, _||_, not};
+ghost use mathlib.Core.Bool.{_&&_, not};
 ghost use Prim.Native.Nat.{ℕ, _+_, _-_, _≤_, _<_, _^_};
 ghost use mathlib.Core.List.{List};
 ghost use lib.ListN.{length, take, getD};
@@ -188,20 +188,6 @@ fn read_column(
     }
 }
 
-// Whether a token is `*x`.
-fn is_exchange(t: PathToken) -> bool
-    ensures { λ r. ⌜ r ≡ isExchange t ⌝ }
-{
-    match t {
-        PathToken::Exchange => true,
-        PathToken::Split => false,
-        PathToken::Join => false,
-        PathToken::End => false,
-        PathToken::Add => false,
-        PathToken::Other => false,
-    }
-}
-
 // Whether the token that begins at `from`, where n are still wanted, is `*x`.
 fn exchange_at(line: &[u8], from: usize, n: usize) -> bool
     ensures { λ r. ⌜ r ≡ isExchange (tokenAt (pathTokens n (pieces 9 from (now (line .entry)))) 0) ⌝ }
@@ -213,7 +199,7 @@ fn exchange_at(line: &[u8], from: usize, n: usize) -> bool
         return false;
     }
     let end = lines::token_end(line, from);
-    is_exchange(paths::path_token(&line[from..end]))
+    paths::is_exchange(paths::path_token(&line[from..end]))
 }
 
 // Whether the token from `from` to `end` exchanges with the one to its right: `left` says whether it does with the one to its left.
@@ -224,20 +210,10 @@ fn exchanges_right(line: &[u8], from: usize, end: usize, n: usize, left: bool) -
     if left {
         return false;
     }
-    if is_exchange(paths::path_token(&line[from..end])) {
+    if paths::is_exchange(paths::path_token(&line[from..end])) {
         return exchange_at(line, end + 1, n - 1);
     }
     false
-}
-
-// Whether one of two holds.
-fn either(a: bool, b: bool) -> bool
-    ensures { λ r. ⌜ r ≡ (b || a) ⌝ }
-{
-    if b {
-        return true;
-    }
-    a
 }
 
 // The columns of a star record, as far as the line has tokens.
@@ -263,7 +239,7 @@ pub fn read_columns(
         }
         let end = lines::token_end(line, from);
         let right = exchanges_right(line, from, end, row.len() - i, left);
-        let paired = either(left, right);
+        let paired = slices::either(right, left);
         let cell = row[i];
         let at = offset + from as u32;
         i += 1;

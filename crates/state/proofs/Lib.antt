@@ -3,3 +3,4 @@ pub mod LayLaws
 pub mod RowLaws
 pub mod PartLaws
 pub mod ViewLaws
+pub mod CountLaws

@@ -1,4 +1,5 @@
--- The counts, one of them changed.
+-- The counts: one of them changed, and those that a record's tokens leave as they are.
+use mathlib.Core.Path.{_≡_}
 use Prim.Native.Nat.{ℕ}
 use Rattle.state.specs.declared.Tally.{Tally}
 
@@ -16,3 +17,9 @@ withActive t active = record {
   lyricist = t .lyricist;
   at = t .at;
 }
+
+-- as many active spines, parts and bars in u as in t
+pub record Same (t u : Tally) : Type 0 where
+  pub active : u .active ≡ t .active
+  pub parts : u .parts ≡ t .parts
+  pub bars : u .bars ≡ t .bars

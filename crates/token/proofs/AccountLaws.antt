@@ -20,7 +20,7 @@ use Rattle.items.specs.declared.Item.{Item}
 use Rattle.items.specs.declared.Item.the-variants.{Digits, Letters, Blank, Mark}
 use Rattle.token.specs.Token.{isBlank, badLength, upToBlank, firstSub, givenIn, isSilent, dotsOf, restOf, pitchesOf, articulationsOf}
 use Rattle.token.specs.Scan.{scanItems, scanOf}
-use Rattle.token.specs.Outcome.{noteOf, noted, fromPeers, withoutDigits, byGiven, measured, outcomeOf, readToken, notePitches}
+use Rattle.token.specs.Outcome.{noteOf, byValue, noted, fromPeers, withoutDigits, byGiven, measured, outcomeOf, readToken, notePitches}
 use Rattle.token.specs.Account.{digitsIn, firstDigits, hasValue, orPeers, hasLength, isGrace, isNote, accountLength}
 use Rattle.token.specs.declared.scan.Scan.{Scan}
 use Rattle.token.specs.declared.scan.Given.{Given}
@@ -105,15 +105,10 @@ isHeard Silent = false
 isHeard (Unread n) = false
 isHeard (Heard n) = true
 
-heard-noted : (i : Bool) (v : Value) (s : Scan) → isHeard (noted i v s) ≡ isValue v
-heard-noted i Missing s = refl
-heard-noted i (Plain v) s = refl
-heard-noted i (Tuplet v a n) s = refl
-
-heard-peers : (v : Value) (s : Scan) → isHeard (fromPeers v s) ≡ isValue v
-heard-peers Missing s = refl
-heard-peers (Plain v) s = refl
-heard-peers (Tuplet v a n) s = refl
+heard-value : (number : ℕ) (i : Bool) (v : Value) (s : Scan) → isHeard (byValue number i v s) ≡ isValue v
+heard-value number i Missing s = refl
+heard-value number i (Plain v) s = refl
+heard-value number i (Tuplet v a n) s = refl
 
 -- a grace, by the tests of the code and of the account
 no-grace : (g : ℕ) → eqb g 0 ≡ true → ltb 0 g ≡ false
@@ -127,10 +122,10 @@ unfolding withoutDigits
 heard-by [] peers s = go (eqb (s .grace) 0) (ltb 0 (s .grace)) (no-grace (s .grace)) (some-grace (s .grace)) refl
   where
     go : (t g : Bool) → (eqb (s .grace) 0 ≡ true → g ≡ false) → (eqb (s .grace) 0 ≡ false → g ≡ true) → eqb (s .grace) 0 ≡ t
-        → isHeard (cond t (fromPeers (durationOf peers) s) (noted false (Plain 5) s)) ≡ (g || hasValue peers)
-    go true g p q e = rw (p e) (heard-peers (durationOf peers) s ∙ has-value peers)
+        → isHeard (cond t (fromPeers (durationOf peers) s) (noted (Plain 5) s)) ≡ (g || hasValue peers)
+    go true g p q e = rw (p e) (heard-value 21 true (durationOf peers) s ∙ has-value peers)
     go false g p q e = rw (q e)
-heard-by (x ∷ xs) peers s = heard-noted false (durationOf (x ∷ xs)) s ∙ has-value (x ∷ xs)
+heard-by (x ∷ xs) peers s = heard-value 19 false (durationOf (x ∷ xs)) s ∙ has-value (x ∷ xs)
 
 heard-after : (a b c d k : Bool) (m : Outcome) → isHeard m ≡ k
     → isHeard (cond a Silent (cond b (Unread 16) (cond c m (cond d (Unread 18) m)))) ≡ (not a && (not b && ((c || not d) && k)))
@@ -189,17 +184,11 @@ abbrev LastsAs : Fraction → Note → Type 0
 LastsAs f n = SameLength (lasts n) f
 
 module _ (s : Scan) (few : s .dots ≤ 3) where
-  noted-lasts : (i : Bool) (ds : List ℕ) (v : Value) → durationOf ds ≡ v → Of-note (LastsAs (saidBy s ds)) (noted i v s)
+  value-lasts : (number : ℕ) (i : Bool) (ds : List ℕ) (v : Value) → durationOf ds ≡ v → Of-note (LastsAs (saidBy s ds)) (byValue number i v s)
   unfolding noteOf
-  noted-lasts i ds Missing e = tt
-  noted-lasts i ds (Plain v) e = plain-lasts ds v (s .dots) 0 0 few (ltb 0 (s .grace)) e
-  noted-lasts i ds (Tuplet v a n) e = tuplet-lasts ds v (s .dots) a n few (ltb 0 (s .grace)) e
-
-  peers-lasts : (ds : List ℕ) (v : Value) → durationOf ds ≡ v → Of-note (LastsAs (saidBy s ds)) (fromPeers v s)
-  unfolding noteOf
-  peers-lasts ds Missing e = tt
-  peers-lasts ds (Plain v) e = plain-lasts ds v (s .dots) 0 0 few (ltb 0 (s .grace)) e
-  peers-lasts ds (Tuplet v a n) e = tuplet-lasts ds v (s .dots) a n few (ltb 0 (s .grace)) e
+  value-lasts number i ds Missing e = tt
+  value-lasts number i ds (Plain v) e = plain-lasts ds v (s .dots) 0 0 few (ltb 0 (s .grace)) e
+  value-lasts number i ds (Tuplet v a n) e = tuplet-lasts ds v (s .dots) a n few (ltb 0 (s .grace)) e
 
   grace-lasts : (ds : List ℕ) (t : Bool) → ltb 0 (s .grace) ≡ t → t ≡ true
       → SameLength (noteLength 5 (s .dots) 0 0 t) (cond t (0 over 1) (dotted (s .dots) (reciprocalLength ds)))
@@ -209,10 +198,10 @@ module _ (s : Scan) (few : s .dots ≤ 3) where
   unfolding withoutDigits noteOf
   by-lasts [] peers = go (eqb (s .grace) 0) refl
     where
-      go : (t : Bool) → eqb (s .grace) 0 ≡ t → Of-note (LastsAs (saidBy s peers)) (cond t (fromPeers (durationOf peers) s) (noted false (Plain 5) s))
-      go true e = peers-lasts peers (durationOf peers) refl
+      go : (t : Bool) → eqb (s .grace) 0 ≡ t → Of-note (LastsAs (saidBy s peers)) (cond t (fromPeers (durationOf peers) s) (noted (Plain 5) s))
+      go true e = value-lasts 21 true peers (durationOf peers) refl
       go false e = grace-lasts peers (ltb 0 (s .grace)) refl (some-grace (s .grace) e)
-  by-lasts (x ∷ xs) peers = noted-lasts false (x ∷ xs) (durationOf (x ∷ xs)) refl
+  by-lasts (x ∷ xs) peers = value-lasts 19 false (x ∷ xs) (durationOf (x ∷ xs)) refl
 
 few-dots : (is : List Item) → dotsOf is ≤ 3
 unfolding dotsOf
@@ -236,24 +225,19 @@ no-rest false ts = refl
 
 -- every note of a scan has the lists of the scan
 module _ (P : Note → Type 0) (s : Scan) (each : (i : Bool) (v a n : ℕ) → P (noteOf i v a n s)) where
-  noted-of : (i : Bool) (v : Value) → Of-note P (noted i v s)
-  noted-of i Missing = tt
-  noted-of i (Plain v) = each i v 0 0
-  noted-of i (Tuplet v a n) = each i v a n
-
-  peers-of : (v : Value) → Of-note P (fromPeers v s)
-  peers-of Missing = tt
-  peers-of (Plain v) = each true v 0 0
-  peers-of (Tuplet v a n) = each true v a n
+  value-of : (number : ℕ) (i : Bool) (v : Value) → Of-note P (byValue number i v s)
+  value-of number i Missing = tt
+  value-of number i (Plain v) = each i v 0 0
+  value-of number i (Tuplet v a n) = each i v a n
 
   given-of : (g : Given) (v : Value) → Of-note P (byGiven g s v)
   unfolding withoutDigits
   given-of Nothing v = go (eqb (s .grace) 0)
     where
-      go : (t : Bool) → Of-note P (cond t (fromPeers v s) (noted false (Plain 5) s))
-      go true = peers-of v
+      go : (t : Bool) → Of-note P (cond t (fromPeers v s) (noted (Plain 5) s))
+      go true = value-of 21 true v
       go false = each false 5 0 0
-  given-of (Length w) v = noted-of false w
+  given-of (Length w) v = value-of 19 false w
 
   outcome-of : (v : Value) → Of-note P (outcomeOf s v)
   outcome-of v = after P s v (given-of (s .given) v)
@@ -267,5 +251,8 @@ each-listed : (token : List ℕ) (i : Bool) (v a n : ℕ) → Listed token (note
 unfolding noteOf scanItems
 each-listed token i v a n = record { pitches = no-rest (restOf (items token)) (pitchesOf (items token)); articulations = refl }
 
+pub heard-lists : (token : List ℕ) (v : Value) {n : Note} {o : Outcome} → o ≡ outcomeOf (scanOf token) v → o ≡ Heard n → Listed token n
+heard-lists token v e q = subst (Of-note (Listed token)) (sym e ∙ q) (outcome-of (Listed token) (scanOf token) (each-listed token) v)
+
 pub lists-agree : (token peers : List ℕ) (n : Note) → readToken token peers ≡ Heard n → Listed token n
-lists-agree token peers n e = rw e at (outcome-of (Listed token) (scanOf token) (each-listed token) (durationOf peers))
+lists-agree token peers n e = heard-lists token (durationOf peers) refl e

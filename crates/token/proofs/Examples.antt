@@ -8,7 +8,7 @@ use Rattle.slices.specs.Split.{indexOf}
 use Rattle.slices.specs.Compare.{sameBytes}
 use Rattle.duration.specs.Duration.{digits, numberFrom, exponentOf, gcdIn, written, writtenAt, counts, durationOf}
 use Rattle.pitch.specs.Pitch.{within, lowerCase, upperCase, lowerPitch, upperPitch, pitchOf, alteredBy}
-use Rattle.notation.specs.Search.{contains}
+use Rattle.notation.specs.Bytes.{contains}
 use Rattle.items.specs.Items.{isLetter, joins, into, runs, itemOf, itemsOf}
 use Rattle.token.specs.Token.{badLength, upToBlank, firstSub, isSilent, givenIn, marks, countOf, dotsOf, restOf, anyOf, graceBy, graceFrom, articulation, articulationsIn, heard, passes, signifiers}
 use Rattle.token.specs.Scan.{scanItems}
@@ -43,9 +43,9 @@ tones [] = []
 tones (t ∷ ts) = t .step ∷ t .octave ∷ t .alter ∷ tones ts
 
 unfoldable pub holds : Line → Bool
-holds (line token peers outcome odd pitches) =
+holds (line token peers outcome unknown pitches) =
     sameBytes (shown (readToken token peers)) outcome
-    && (sameBytes (reported token) odd && sameBytes (tones (notePitches token)) pitches)
+    && (sameBytes (reported token) unknown && sameBytes (tones (notePitches token)) pitches)
 
 abbrev pub each : List Line → Bool
 each [] = true

@@ -5,13 +5,14 @@ use mathlib.Core.List.{List, [], _∷_}
 use mathlib.Core.Bool.{Bool, true, false, cond}
 use lib.Dec.{ltb}
 use lib.ListN.{length, length-append}
+use Rattle.token.specs.Outcome.{reported, notePitches}
 use Rattle.pitch.specs.Pitch.{pitchOf}
 use Rattle.pitch.specs.declared.Pitch.{Pitch}
 use Rattle.pitch.specs.declared.Pitch.the-variants.{At, Outside}
 use Rattle.items.specs.Items.{joins, into, runs, itemsOf, items}
 use Rattle.items.specs.declared.Item.{Item}
 use Rattle.items.specs.declared.Item.the-variants.{Digits, Letters, Blank, Mark}
-use Rattle.token.specs.Token.{marks, articulation, articulationsIn, fits, begun, signed, given, heard, passes, signifiers}
+use Rattle.token.specs.Token.{marks, articulation, articulationsIn, fits, begun, signed, given, heard, passes, signifiers, badLength, restOf, articulationsOf, pitchesOf, signifiersOf}
 use Rattle.token.specs.declared.pitches.Sound.{Sound}
 use Rattle.token.specs.declared.pitches.Sound.the-variants.{Silence, Of}
 
@@ -85,3 +86,21 @@ signifiers-few s (Letters c n ∷ is) =
 signifiers-few s (Blank ∷ is) = omega (arith, signifiers-few false is)
 signifiers-few s (Mark b ∷ is) =
     either-few (passes s b) (signifiers s is) (b ∷ signifiers s is) (omega (arith, signifiers-few s is)) (omega (arith, signifiers-few s is))
+
+-- what a token gives of each list: no more than it has bytes
+pub record Gives (token : List ℕ) : Type 0 where
+  pub pitches : length (notePitches token) ≤ length token
+  pub articulations : length (articulationsOf (items token)) ≤ length token
+  pub signifiers : length (reported token) ≤ length token
+
+pub gives : (token : List ℕ) → Gives token
+gives token =
+    let few = items-few token in
+    record {
+      pitches =
+          either-few (restOf (items token)) [] (pitchesOf (items token)) (omega arith) (omega (arith, heard-few Silence (items token)));
+      articulations = omega (arith, articulations-few (marks (items token)), marks-few (items token));
+      signifiers =
+          either-few (badLength false false (items token)) [] (signifiersOf (items token)) (omega arith)
+          (omega (arith, signifiers-few false (items token)));
+    }

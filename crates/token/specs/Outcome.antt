@@ -36,25 +36,27 @@ noteOf inferred value actual normal s =
       articulations = s .articulations;
     }
 
+-- a note of a value, or the notice where it is Missing
+abbrev pub byValue : ℕ → Bool → Value → Scan → Outcome
+byValue number inferred Missing s = Unread number
+byValue number inferred (Plain value) s = Heard (noteOf inferred value 0 0 s)
+byValue number inferred (Tuplet value actual normal) s = Heard (noteOf inferred value actual normal s)
+
 -- "19 reciprocal", or a note
-abbrev pub noted : Bool → Value → Scan → Outcome
-noted inferred Missing s = Unread 19
-noted inferred (Plain value) s = Heard (noteOf inferred value 0 0 s)
-noted inferred (Tuplet value actual normal) s = Heard (noteOf inferred value actual normal s)
+abbrev pub noted : Value → Scan → Outcome
+noted v s = byValue 19 false v s
 
 -- "21 missing length", or a note with "20 inferred"
 abbrev pub fromPeers : Value → Scan → Outcome
-fromPeers Missing s = Unread 21
-fromPeers (Plain value) s = Heard (noteOf true value 0 0 s)
-fromPeers (Tuplet value actual normal) s = Heard (noteOf true value actual normal s)
+fromPeers v s = byValue 21 true v s
 
 -- a grace without digits is an eighth
 unfoldable pub withoutDigits : Scan → Value → Outcome
-withoutDigits s inferred = cond (eqb (s .grace) 0) (fromPeers inferred s) (noted false (Plain 5) s)
+withoutDigits s inferred = cond (eqb (s .grace) 0) (fromPeers inferred s) (noted (Plain 5) s)
 
 abbrev pub byGiven : Given → Scan → Value → Outcome
 byGiven Nothing s inferred = withoutDigits s inferred
-byGiven (Length v) s inferred = noted false v s
+byGiven (Length v) s inferred = noted v s
 
 abbrev pub measured : Scan → Value → Outcome
 measured s inferred = byGiven (s .given) s inferred

@@ -4,7 +4,7 @@ use mathlib.Core.List.{List, [], _∷_, _++_}
 use mathlib.Core.Bool.{Bool, true, false, cond, not, _&&_, _||_}
 use lib.Dec.{eqb, ltb}
 use Rattle.slices.specs.Ascii.{ascii}
-use Rattle.notation.specs.Search.{contains}
+use Rattle.notation.specs.Bytes.{contains}
 use Rattle.pitch.specs.Pitch.{pitchOf, alteredBy}
 use Rattle.pitch.specs.declared.Pitch.{Pitch}
 use Rattle.pitch.specs.declared.Pitch.the-variants.{At, Outside}
@@ -149,11 +149,11 @@ known = ascii ".r[]_()LJqQ'^~;Tt"
 unfoldable pub passes : Bool → ℕ → Bool
 passes sounding b = cond (contains b signs) sounding (contains b known)
 
--- whether a byte is a mark that says nothing
-unfoldable pub isOdd : ℕ → Bool
-isOdd b = not (isDigit b || isLetter b || contains b (ascii " %") || contains b signs || contains b known)
+-- whether a byte is an unknown mark: no digit, letter, space, `%`, sign or known mark
+unfoldable pub isUnknown : ℕ → Bool
+isUnknown b = not (isDigit b || isLetter b || contains b (ascii " %") || contains b signs || contains b known)
 
--- "17 signifiers": letters of runs that are no pitch, once each, and marks that are not imported; `sounding` says that the
+-- "17 signifiers": letters of runs that are no pitch, once each, and unknown marks; `sounding` says that the
 -- sub-token has a pitch
 unfoldable pub signifiers : Bool → List Item → List ℕ
 signifiers sounding [] = []

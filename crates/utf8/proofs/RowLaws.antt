@@ -1,6 +1,6 @@
 -- A row of the table, byte by byte, as the code goes through it.
 use mathlib.Core.Path.{_≡_, refl, ap, _∙_}
-use mathlib.Core.Bool.{Bool, true, false, cond, _&&_}
+use mathlib.Core.Bool.{Bool, true, false, cond, _&&_, and-true}
 use mathlib.Core.List.{List, [], _∷_, List·Memᴰ, List·Memᴰ·head, List·Memᴰ·tail}
 use Prim.Native.Nat.{ℕ, zero, suc, _+_, _-_, _≤_, _<_}
 use native.Mathlib.Nat.{not-suc-le-zero, le-of-suc-le-suc}
@@ -25,10 +25,6 @@ module _ (r : Range) (s : List ℕ) (i : ℕ) where
   pub upto : i < length s → r .0 ≤ getD s i 0 → begins (r ∷ []) (drop i s) ≡ leb (getD s i 0) (r .1)
   unfolding begins
   upto h low = ap (begins (r ∷ [])) (at-index s i h) ∙ rw (le-leb (r .0) (getD s i 0) low) (and-true (leb (getD s i 0) (r .1)))
-    where
-      and-true : (t : Bool) → (t && true) ≡ t
-      and-true true = refl
-      and-true false = refl
 
   -- a byte of the row and the row behind it
   pub begins-split : (rs : List Range) → begins (r ∷ rs) (drop i s) ≡ (begins (r ∷ []) (drop i s) && begins rs (drop (i + 1) s))

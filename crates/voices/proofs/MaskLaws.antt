@@ -12,6 +12,7 @@ use lib.ListN.{length, getD, take, set, length-set}
 use lib.Seq.{getD-set-same, getD-set-other, take-all}
 use borrow.Author.Tests.{eq-eqb, ne-eqb}
 use Rattle.slices.specs.Finite.{all, below}
+use Rattle.slices.proofs.TestLaws.{clash}
 use Rattle.paths.specs.Row.{Spine, line, branch, outside}
 use Rattle.paths.specs.Voices.{holds, lowest, withVoice}
 use Rattle.paths.proofs.LoopLaws.{holds-line, holds-branch, holds-outside}
@@ -77,7 +78,7 @@ module _ (held : ℕ → Bool) where
       is k h q = let r : v ≡ k = cc in omega arith
 
       go : (a b c d : Bool) → some v ≡ cond a (cond b (cond c (cond d none (some 3)) (some 2)) (some 1)) (some 0) → v < 4
-      go true true true true q = let z : _≡_ {A = ℕ} 0 1 = cc in omega arith
+      go true true true true q = clash cc
       go true true true false q = is 3 (omega arith) q
       go true true false d q = is 2 (omega arith) q
       go true false c d q = is 1 (omega arith) q

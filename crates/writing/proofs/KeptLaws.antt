@@ -4,6 +4,8 @@ use Prim.Native.Nat.{ℕ, _+_}
 use mathlib.Core.Bool.{Bool, true, false, cond}
 use mathlib.Core.List.{List, [], _∷_}
 use lib.Dec.{ltb}
+use Rattle.state.proofs.CountLaws.{same}
+use Rattle.state.specs.Counts.{Same}
 use Rattle.sheet.specs.Record.{Record, NOTICE}
 use Rattle.sheet.specs.declared.Notice.{Notice}
 use Rattle.sheet.specs.declared.Span.{Span}
@@ -13,7 +15,7 @@ use Rattle.state.specs.declared.Tally.{Tally}
 use Rattle.state.specs.declared.Step.the-variants.{Goes}
 use Rattle.state.specs.Lay.{laid, behind}
 use Rattle.state.specs.View.{stateOf, going, landed, told}
-use Rattle.writing.specs.Kept.{Same, noticeOf, counted, keptRecords, afterKept}
+use Rattle.writing.specs.Kept.{noticeOf, counted, keptRecords, afterKept}
 
 module _ (t : Tally) (n : Notice) (bytes : List ℕ) where
   pub kept-at : afterKept t n bytes .at ≡ behind (t .at) (keptRecords t n bytes)
@@ -24,13 +26,21 @@ module _ (t : Tally) (n : Notice) (bytes : List ℕ) where
       go true = refl
       go false = refl
 
-  pub kept-same : Same (afterKept t n bytes) t
+  pub kept-same : Same t (afterKept t n bytes)
   unfolding afterKept
   kept-same = go (ltb (t .notices) 1024)
     where
-      go : (b : Bool) → Same (cond b (counted t (behind (t .at) (NOTICE n bytes ∷ []))) t) t
-      go true = record { active = refl; parts = refl; bars = refl; notes = refl }
-      go false = record { active = refl; parts = refl; bars = refl; notes = refl }
+      go : (b : Bool) → Same t (cond b (counted t (behind (t .at) (NOTICE n bytes ∷ []))) t)
+      go true = record { active = refl; parts = refl; bars = refl }
+      go false = same t
+
+  pub kept-notes : afterKept t n bytes .notes ≡ t .notes
+  unfolding afterKept
+  kept-notes = go (ltb (t .notices) 1024)
+    where
+      go : (b : Bool) → cond b (counted t (behind (t .at) (NOTICE n bytes ∷ []))) t .notes ≡ t .notes
+      go true = refl
+      go false = refl
 
 module _ (cells parts : List ℕ) (t : Tally) (n : Notice) (bytes : List ℕ) where
   pub kept-state : stateOf cells parts (afterKept t n bytes) ≡ keep n bytes (stateOf cells parts t) .state

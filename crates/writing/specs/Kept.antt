@@ -53,10 +53,3 @@ keptRecords t n bytes = cond (ltb (t .notices) 1024) (NOTICE n bytes ∷ []) []
 
 unfoldable pub afterKept : Tally → Notice → List ℕ → Tally
 afterKept t n bytes = cond (ltb (t .notices) 1024) (counted t (behind (t .at) (NOTICE n bytes ∷ []))) t
-
--- the counts that a notice leaves as they are
-pub record Same (a b : Tally) : Type 0 where
-  pub active : a .active ≡ b .active
-  pub parts : a .parts ≡ b .parts
-  pub bars : a .bars ≡ b .bars
-  pub notes : a .notes ≡ b .notes

@@ -1,6 +1,6 @@
 -- The cell says whether the column is a kern line, and its part and voice.
+use Rattle.state.proofs.CountLaws.{same}
 use Rattle.state.specs.View.{stateOf}
-use Rattle.notes.proofs.NoticeLaws.{same}
 use Rattle.data.proofs.ColumnLaws.{column-outside, column-branch, column-line, column-sited}
 use borrow.Author.Needs.{needs}
 use Rattle.data.proofs.read_column.Statement.{statement}

@@ -3,8 +3,8 @@ use mathlib.Core.Path.{sym, _∙_}
 use Prim.Native.Nat.{_-_}
 use native.Mathlib.Omega.{arith}
 use lib.ListN.{length}
+use Rattle.state.proofs.CountLaws.{same-same}
 use Rattle.lines.proofs.PieceLaws.{piece-at}
-use Rattle.notes.proofs.NoticeLaws.{same-same}
 use Rattle.notes.proofs.TokenLaws.{kept-same}
 use Rattle.data.proofs.DataLaws.{Reading, data-ready, data-past, data-done, data-turn, data-stops, data-ends, data-kept}
 use Rattle.data.proofs.StretchLaws.{wholeRest, data-begun, begun-kept, begun-ready, rest-first, stretch-turn}

@@ -1,14 +1,12 @@
 -- The byte is compared where there is one.
-use mathlib.Core.Path.{_≡_}
-use Prim.Native.Nat.{ℕ}
-use native.Mathlib.Omega.{arith}
 use borrow.Author.Tests.{eqb-true}
 use borrow.Author.Needs.{needs}
+use Rattle.slices.proofs.TestLaws.{clash}
 use Rattle.lines.proofs.is_remark.Statement.{statement}
 use Rattle.lines.proofs.is_remark.Tie as tie
 
 returns : tie.Need-returns
-returns c = λ e. let z : _≡_ {A = ℕ} 0 1 = cc in absurd (omega arith)
+returns c = λ e. clash cc
 
 shared-slice-read-result : tie.Need-shared-slice-read-result
 shared-slice-read-result c = search needs

@@ -14,7 +14,7 @@ use Rattle.lists.specs.Lists.{pitchBytes, soundBytes}
 use Rattle.lists.proofs.FillLaws.{fill-as, fill-length, fill-room, fill-turn, fill-past, Writing, write-first, write-room, write-on, write-turn, write-left}
 use Rattle.lists.proofs.ItemLaws.{heard-none}
 use Rattle.lists.proofs.CountLaws.{note-bytes, heardBytes, heard-next}
-use Rattle.lists.proofs.OddLaws.{odds-past}
+use Rattle.lists.proofs.UnknownLaws.{unknowns-past}
 use Rattle.lists.proofs.fill_pitches.Statement.{statement}
 use Rattle.lists.proofs.fill_pitches.Tie as tie
 
@@ -75,17 +75,17 @@ loop-less-3 c = omega (arith, c .before .before .before .before .before .before 
 loop-again-3 : tie.Need-loop-again-3 Inv-loop μ-loop
 loop-again-3 c = write-turn (c .before .before .before .before .before .before .before .before .before .before .before .loop .inv) (soundBytes (c .before .before .before .before .before .before .before .before .before .before .before .loop .sound)) (heardBytes Silence) (next-at (c .before .before .before .before .before .before .before .before .before .before .loop-test .taken) (next-blank _ _ (c .before .before .before .before .before .before .before .before .before .before .loop-test .taken) (c .before .before .before .before .before .before .before .before .is-digit .ensures) (c .before .before .before .before .before .before .before .if1 .left) (c .before .before .before .before .before .before .is-letter .ensures) (c .before .before .before .before .before .if2 .left) (c .before .before .before .before .if3 .taken))) (heard-next (c .before .before .before .before .before .before .before .before .before .before .before .loop .sound) Blank refl) (c .before .before .put-sound .ensures .0) (c .before .before .put-sound .ensures .1)
 
-is-odd-requires : tie.Need-is-odd-requires Inv-loop μ-loop
-is-odd-requires c κs = search needs
+is-unknown-requires : tie.Need-is-unknown-requires Inv-loop μ-loop
+is-unknown-requires c κs = search needs
 
-odd-end-requires : tie.Need-odd-end-requires Inv-loop μ-loop
-odd-end-requires c κs = (c .before .before .before .before .before .before .before .before .loop-test .taken, sym (c .before .is-odd .ensures) ∙ c .if4 .taken)
+unknown-end-requires : tie.Need-unknown-end-requires Inv-loop μ-loop
+unknown-end-requires c κs = (c .before .before .before .before .before .before .before .before .loop-test .taken, sym (c .before .is-unknown .ensures) ∙ c .if4 .taken)
 
 loop-less-4 : tie.Need-loop-less-4 Inv-loop μ-loop
-loop-less-4 c = omega (arith, c .before .before .before .before .before .before .before .before .before .loop-test .taken, c .odd-end .ensures .on, c .odd-end .ensures .high)
+loop-less-4 c = omega (arith, c .before .before .before .before .before .before .before .before .before .loop-test .taken, c .unknown-end .ensures .on, c .unknown-end .ensures .high)
 
 loop-again-4 : tie.Need-loop-again-4 Inv-loop μ-loop
-loop-again-4 c = odds-past (c .odd-end .ensures) (c .before .before .before .before .before .before .before .before .before .before .loop .sound) (c .before .before .before .before .before .before .before .before .before .before .loop .inv)
+loop-again-4 c = unknowns-past (c .unknown-end .ensures) (c .before .before .before .before .before .before .before .before .before .before .loop .sound) (c .before .before .before .before .before .before .before .before .before .before .loop .inv)
 
 sign-requires : tie.Need-sign-requires Inv-loop μ-loop
 sign-requires c κs = search needs
@@ -131,8 +131,8 @@ fill-pitches-spec =
     add-i
     loop-less-3
     loop-again-3
-    is-odd-requires
-    odd-end-requires
+    is-unknown-requires
+    unknown-end-requires
     loop-less-4
     loop-again-4
     sign-requires

@@ -11,8 +11,8 @@ use Rattle.items.proofs.NextLaws.{end-on, next-digits, next-letters, next-blank
 use Rattle.token.specs.Token.{signifiers}
 use Rattle.lists.specs.Lists.{signifierBytes}
 use Rattle.lists.proofs.FillLaws.{fill-as, fill-length, fill-past, Writing, write-first, write-room, write-on, write-turn, write-left}
-use Rattle.lists.proofs.ItemLaws.{no-signifiers, past-digits, past-pitch, past-run, past-blank, past-known, past-odd}
-use Rattle.lists.proofs.OddLaws.{odds-room, odds-turn}
+use Rattle.token.proofs.SignifierLaws.{no-signifiers, past-digits, past-pitch, past-run, past-blank, past-known, past-unknown}
+use Rattle.lists.proofs.UnknownLaws.{unknowns-room, unknowns-turn}
 use Rattle.lists.proofs.fill_signifiers.Statement.{statement}
 use Rattle.lists.proofs.fill_signifiers.Tie as tie
 
@@ -79,29 +79,29 @@ loop-less-4 c = omega (arith, c .before .before .before .before .before .before 
 loop-again-4 : tie.Need-loop-again-4 Inv-loop μ-loop
 loop-again-4 c = write-on (c .before .before .before .before .before .before .before .loop .inv) _ (next-at (c .before .before .before .before .before .before .loop-test .taken) (next-blank _ _ (c .before .before .before .before .before .before .loop-test .taken) (c .before .before .before .before .is-digit .ensures) (c .before .before .before .if1 .left) (c .before .before .is-letter .ensures) (c .before .if2 .left) (c .if4 .taken))) (past-blank (c .before .before .before .before .before .before .before .loop .sounding))
 
-is-odd-requires : tie.Need-is-odd-requires Inv-loop μ-loop
-is-odd-requires c κs = search needs
+is-unknown-requires : tie.Need-is-unknown-requires Inv-loop μ-loop
+is-unknown-requires c κs = search needs
 
-odd-end-requires : tie.Need-odd-end-requires Inv-loop μ-loop
-odd-end-requires c κs = (c .before .before .before .before .before .before .before .before .loop-test .taken, sym (c .before .is-odd .ensures) ∙ c .if5 .taken)
+unknown-end-requires : tie.Need-unknown-end-requires Inv-loop μ-loop
+unknown-end-requires c κs = (c .before .before .before .before .before .before .before .before .loop-test .taken, sym (c .before .is-unknown .ensures) ∙ c .if5 .taken)
 
 sub-put-run : tie.Need-sub-put-run Inv-loop μ-loop
-sub-put-run c = omega (arith, c .before .odd-end .ensures .on)
+sub-put-run c = omega (arith, c .before .unknown-end .ensures .on)
 
 part-put-run-start : tie.Need-part-put-run-start Inv-loop μ-loop
-part-put-run-start c = omega (arith, c .before .odd-end .ensures .on, c .before .odd-end .ensures .high)
+part-put-run-start c = omega (arith, c .before .unknown-end .ensures .on, c .before .unknown-end .ensures .high)
 
 part-put-run-end : tie.Need-part-put-run-end Inv-loop μ-loop
-part-put-run-end c = omega (arith, c .before .odd-end .ensures .on, c .before .odd-end .ensures .high)
+part-put-run-end c = omega (arith, c .before .unknown-end .ensures .on, c .before .unknown-end .ensures .high)
 
 put-run-requires : tie.Need-put-run-requires Inv-loop μ-loop
-put-run-requires c κs = odds-room (c .before .before .odd-end .ensures) (c .before .before .before .before .before .before .before .before .before .before .before .before .loop .sounding) (c .before .before .before .before .before .before .before .before .before .before .before .before .loop .inv)
+put-run-requires c κs = unknowns-room (c .before .before .unknown-end .ensures) (c .before .before .before .before .before .before .before .before .before .before .before .before .loop .sounding) (c .before .before .before .before .before .before .before .before .before .before .before .before .loop .inv)
 
 loop-less-5 : tie.Need-loop-less-5 Inv-loop μ-loop
-loop-less-5 c = omega (arith, c .before .before .before .before .before .before .before .before .before .before .before .before .before .before .loop-test .taken, c .before .before .before .before .before .odd-end .ensures .on, c .before .before .before .before .before .odd-end .ensures .high)
+loop-less-5 c = omega (arith, c .before .before .before .before .before .before .before .before .before .before .before .before .before .before .loop-test .taken, c .before .before .before .before .before .unknown-end .ensures .on, c .before .before .before .before .before .unknown-end .ensures .high)
 
 loop-again-5 : tie.Need-loop-again-5 Inv-loop μ-loop
-loop-again-5 c = odds-turn (c .before .before .before .before .before .odd-end .ensures) (c .before .before .before .before .before .before .before .before .before .before .before .before .before .before .before .loop .sounding) (c .before .before .before .before .before .before .before .before .before .before .before .before .before .before .before .loop .inv) (c .before .before .put-run .ensures .0) (c .before .before .put-run .ensures .1)
+loop-again-5 c = unknowns-turn (c .before .before .before .before .before .unknown-end .ensures) (c .before .before .before .before .before .before .before .before .before .before .before .before .before .before .before .loop .sounding) (c .before .before .before .before .before .before .before .before .before .before .before .before .before .before .before .loop .inv) (c .before .before .put-run .ensures .0) (c .before .before .put-run .ensures .1)
 
 passes-requires : tie.Need-passes-requires Inv-loop μ-loop
 passes-requires c κs = search needs
@@ -116,7 +116,7 @@ loop-again-6 : tie.Need-loop-again-6 Inv-loop μ-loop
 loop-again-6 c = write-on (c .before .before .before .before .before .before .before .before .before .before .before .loop .inv) _ (next-at (c .before .before .before .before .before .before .before .before .before .before .loop-test .taken) (next-mark _ _ (c .before .before .before .before .before .before .before .before .before .before .loop-test .taken) (c .before .before .before .before .before .before .before .before .is-digit .ensures) (c .before .before .before .before .before .before .before .if1 .left) (c .before .before .before .before .before .before .is-letter .ensures) (c .before .before .before .before .before .if2 .left) (c .before .before .before .before .if4 .left))) (past-known (c .before .before .before .before .before .before .before .before .before .before .before .loop .sounding) _ (c .before .passes .ensures) (c .if6 .taken))
 
 slice-write-out-2 : tie.Need-slice-write-out-2 Inv-loop μ-loop
-slice-write-out-2 c = omega (arith, write-room (c .before .before .before .before .before .before .before .before .before .before .before .loop .inv) (_ ∷ []) (signifiers (c .before .before .before .before .before .before .before .before .before .before .before .loop .sounding)) (next-at (c .before .before .before .before .before .before .before .before .before .before .loop-test .taken) (next-mark _ _ (c .before .before .before .before .before .before .before .before .before .before .loop-test .taken) (c .before .before .before .before .before .before .before .before .is-digit .ensures) (c .before .before .before .before .before .before .before .if1 .left) (c .before .before .before .before .before .before .is-letter .ensures) (c .before .before .before .before .before .if2 .left) (c .before .before .before .before .if4 .left))) (past-odd (c .before .before .before .before .before .before .before .before .before .before .before .loop .sounding) _ (c .before .passes .ensures) (c .if6 .left)))
+slice-write-out-2 c = omega (arith, write-room (c .before .before .before .before .before .before .before .before .before .before .before .loop .inv) (_ ∷ []) (signifiers (c .before .before .before .before .before .before .before .before .before .before .before .loop .sounding)) (next-at (c .before .before .before .before .before .before .before .before .before .before .loop-test .taken) (next-mark _ _ (c .before .before .before .before .before .before .before .before .before .before .loop-test .taken) (c .before .before .before .before .before .before .before .before .is-digit .ensures) (c .before .before .before .before .before .before .before .if1 .left) (c .before .before .before .before .before .before .is-letter .ensures) (c .before .before .before .before .before .if2 .left) (c .before .before .before .before .if4 .left))) (past-unknown (c .before .before .before .before .before .before .before .before .before .before .before .loop .sounding) _ (c .before .passes .ensures) (c .if6 .left)))
 
 add-k-2 : tie.Need-add-k-2 Inv-loop μ-loop
 add-k-2 c = omega arith
@@ -128,7 +128,7 @@ loop-less-7 : tie.Need-loop-less-7 Inv-loop μ-loop
 loop-less-7 c = omega (arith, c .before .before .before .before .before .before .before .before .before .before .loop-test .taken)
 
 loop-again-7 : tie.Need-loop-again-7 Inv-loop μ-loop
-loop-again-7 c = write-turn (c .before .before .before .before .before .before .before .before .before .before .before .loop .inv) (_ ∷ []) (signifiers (c .before .before .before .before .before .before .before .before .before .before .before .loop .sounding)) (next-at (c .before .before .before .before .before .before .before .before .before .before .loop-test .taken) (next-mark _ _ (c .before .before .before .before .before .before .before .before .before .before .loop-test .taken) (c .before .before .before .before .before .before .before .before .is-digit .ensures) (c .before .before .before .before .before .before .before .if1 .left) (c .before .before .before .before .before .before .is-letter .ensures) (c .before .before .before .before .before .if2 .left) (c .before .before .before .before .if4 .left))) (past-odd (c .before .before .before .before .before .before .before .before .before .before .before .loop .sounding) _ (c .before .passes .ensures) (c .if6 .left)) refl refl
+loop-again-7 c = write-turn (c .before .before .before .before .before .before .before .before .before .before .before .loop .inv) (_ ∷ []) (signifiers (c .before .before .before .before .before .before .before .before .before .before .before .loop .sounding)) (next-at (c .before .before .before .before .before .before .before .before .before .before .loop-test .taken) (next-mark _ _ (c .before .before .before .before .before .before .before .before .before .before .loop-test .taken) (c .before .before .before .before .before .before .before .before .is-digit .ensures) (c .before .before .before .before .before .before .before .if1 .left) (c .before .before .before .before .before .before .is-letter .ensures) (c .before .before .before .before .before .if2 .left) (c .before .before .before .before .if4 .left))) (past-unknown (c .before .before .before .before .before .before .before .before .before .before .before .loop .sounding) _ (c .before .passes .ensures) (c .if6 .left)) refl refl
 
 same-length : tie.Need-same-length Inv-loop μ-loop
 same-length c = fill-length (c .before .loop .inv .fill)
@@ -161,8 +161,8 @@ fill-signifiers-spec =
     add-i
     loop-less-4
     loop-again-4
-    is-odd-requires
-    odd-end-requires
+    is-unknown-requires
+    unknown-end-requires
     sub-put-run
     part-put-run-start
     part-put-run-end

@@ -2,7 +2,7 @@
 use mathlib.Core.Path.{ap, _∙_}
 use native.Mathlib.Omega.{arith}
 use Rattle.sheet.specs.declared.Note.{Note as NoteWritten}
-use Rattle.extent.proofs.TokenLaws.{gives}
+use Rattle.token.proofs.FewLaws.{gives}
 use Rattle.state.specs.View.{stateOf}
 use Rattle.notes.proofs.TokenLaws.{note-added, note-refused, note-same}
 use borrow.Author.Needs.{needs}

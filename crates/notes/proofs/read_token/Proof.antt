@@ -1,10 +1,10 @@
 -- The scan is that of the token, and its outcome decides.
 use mathlib.Core.Path.{ap, _∙_}
 use native.Mathlib.Omega.{arith}
+use Rattle.state.proofs.CountLaws.{same, same-same}
 use Rattle.token.specs.Outcome.{outcomeOf}
 use Rattle.token.specs.declared.scan.Scan.{Scan}
-use Rattle.notes.proofs.ListLaws.{heard-lists}
-use Rattle.notes.proofs.NoticeLaws.{same, same-same}
+use Rattle.token.proofs.AccountLaws.{heard-lists}
 use Rattle.notes.proofs.TokenLaws.{null-step, silent-step, unread-step, heard-step, kept-same}
 use borrow.Author.Needs.{needs}
 use Rattle.notes.proofs.read_token.Statement.{statement}

@@ -5,9 +5,9 @@ use lib.ListN.{length}
 use Rattle.items.specs.Items.{items}
 use Rattle.token.specs.Token.{signifiersOf}
 use Rattle.token.specs.Outcome.{reported}
-use Rattle.extent.proofs.TokenLaws.{gives}
+use Rattle.token.proofs.FewLaws.{gives}
 use Rattle.writing.specs.Kept.{signifiersNotice}
-use Rattle.notes.proofs.ListLaws.{reports-none, reports, signifiers-are}
+use Rattle.notes.proofs.ReportLaws.{reports-none, reports, signifiers-are}
 use Rattle.notes.proofs.NoticeLaws.{noticed-none, noticed-by, signify-none, signify-as}
 use borrow.Author.Needs.{needs}
 use Rattle.notes.proofs.signify.Statement.{statement}

@@ -3,7 +3,7 @@ use mathlib.Core.Path.{ap, _∙_}
 use mathlib.Core.List.{[], _∷_}
 use native.Mathlib.Omega.{arith}
 use Rattle.sheet.specs.declared.Note.{Note as NoteWritten}
-use Rattle.extent.proofs.TokenLaws.{gives}
+use Rattle.token.proofs.FewLaws.{gives}
 use Rattle.state.specs.Lay.{laid, behind}
 use Rattle.writing.specs.Kept.{noteRecord}
 use Rattle.notes.specs.Spot.{noteAt}

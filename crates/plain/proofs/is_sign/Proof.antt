@@ -2,7 +2,7 @@
 use mathlib.Core.Path.{ap}
 use Prim.Native.Nat.{ℕ}
 use borrow.Author.Tests.{eqb-true}
-use Rattle.notation.specs.Search.{contains}
+use Rattle.notation.specs.Bytes.{contains}
 use Rattle.plain.specs.Usual.{signBytes}
 use Rattle.plain.proofs.is_sign.Statement.{statement}
 use Rattle.plain.proofs.is_sign.Tie as tie

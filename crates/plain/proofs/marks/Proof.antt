@@ -4,20 +4,20 @@ use Prim.Native.Nat.{_≤_, _-_}
 use native.Mathlib.Omega.{arith}
 use lib.ListN.{length}
 use borrow.Author.Needs.{needs}
-use Rattle.notation.specs.Search.{contains}
+use Rattle.notation.specs.Bytes.{contains}
 use Rattle.token.specs.Token.{articulation}
 use Rattle.plain.specs.Usual.{opened, Marking}
-use Rattle.plain.proofs.ByteLaws.{mark-turn, small, articulation-mark, said-articulation, odd-mark, said-odd}
+use Rattle.plain.proofs.ByteLaws.{mark-turn, small, articulation-mark, said-articulation, unknown-mark, said-unknown}
 use Rattle.plain.proofs.PieceLaws.{carried-first, carried-turn}
 use Rattle.plain.proofs.marks.Statement.{statement}
 use Rattle.plain.proofs.marks.Tie as tie
 
 abbrev Inv-loop : tie.InvT-loop
-Inv-loop line from tying slurring ties₀ tied₀ slurs₀ slurred₀ starts₀ ends₀ articulations₀ odd₀ i₀ ties tied slurs slurred starts ends articulations odd i =
-    Marking line from (opened tying slurring) (record { ties = ties; tied = tied; slurs = slurs; slurred = slurred; starts = starts; ends = ends; articulations = articulations; odd = odd }) i × (articulations ≤ i)
+Inv-loop line from tying slurring ties₀ tied₀ slurs₀ slurred₀ starts₀ ends₀ articulations₀ unknown₀ i₀ ties tied slurs slurred starts ends articulations unknown i =
+    Marking line from (opened tying slurring) (record { ties = ties; tied = tied; slurs = slurs; slurred = slurred; starts = starts; ends = ends; articulations = articulations; unknown = unknown }) i × (articulations ≤ i)
 
 abbrev μ-loop : tie.MeasureT-loop
-μ-loop line from tying slurring ties₀ tied₀ slurs₀ slurred₀ starts₀ ends₀ articulations₀ odd₀ i₀ ties tied slurs slurred starts ends articulations odd i = length line - i
+μ-loop line from tying slurring ties₀ tied₀ slurs₀ slurred₀ starts₀ ends₀ articulations₀ unknown₀ i₀ ties tied slurs slurred starts ends articulations unknown i = length line - i
 
 loop-holds : tie.Need-loop-holds Inv-loop μ-loop
 loop-holds c = (carried-first (c .before .pre), omega arith)
@@ -110,11 +110,11 @@ loop-less-8 c = search needs
 loop-again-8 : tie.Need-loop-again-8 Inv-loop μ-loop
 loop-again-8 c = (carried-turn (c .before .before .before .before .before .before .before .before .before .before .before .loop .inv .0) (search needs) (articulation-mark _ (small _ _ (c .before .articulation .ensures) (c .if8 .taken))) (said-articulation _ _ (small _ _ (c .before .articulation .ensures) (c .if8 .taken))), omega arith)
 
-sub-is-odd : tie.Need-sub-is-odd Inv-loop μ-loop
-sub-is-odd c = omega (arith, c .before .before .before .before .before .before .before .before .before .before .before .loop .inv .0 .run .low)
+sub-is-unknown : tie.Need-sub-is-unknown Inv-loop μ-loop
+sub-is-unknown c = omega (arith, c .before .before .before .before .before .before .before .before .before .before .before .loop .inv .0 .run .low)
 
-is-odd-requires : tie.Need-is-odd-requires Inv-loop μ-loop
-is-odd-requires c κs = search needs
+is-unknown-requires : tie.Need-is-unknown-requires Inv-loop μ-loop
+is-unknown-requires c κs = search needs
 
 add-i-9 : tie.Need-add-i-9 Inv-loop μ-loop
 add-i-9 c = search needs
@@ -123,7 +123,7 @@ loop-less-9 : tie.Need-loop-less-9 Inv-loop μ-loop
 loop-less-9 c = search needs
 
 loop-again-9 : tie.Need-loop-again-9 Inv-loop μ-loop
-loop-again-9 c = (carried-turn (c .before .before .before .before .before .before .before .before .before .before .before .before .before .loop .inv .0) (search needs) (odd-mark _ (c .before .is-odd .ensures (c .if9 .taken))) (said-odd _ _ (c .before .is-odd .ensures (c .if9 .taken))), omega arith)
+loop-again-9 c = (carried-turn (c .before .before .before .before .before .before .before .before .before .before .before .before .before .loop .inv .0) (search needs) (unknown-mark _ (c .before .is-unknown .ensures (c .if9 .taken))) (said-unknown _ _ (c .before .is-unknown .ensures (c .if9 .taken))), omega arith)
 
 returns : tie.Need-returns Inv-loop μ-loop
 returns c = c .before .before .before .before .before .before .before .before .before .before .before .before .before .loop .inv .0
@@ -165,8 +165,8 @@ marks-spec =
     add-i-8
     loop-less-8
     loop-again-8
-    sub-is-odd
-    is-odd-requires
+    sub-is-unknown
+    is-unknown-requires
     add-i-9
     loop-less-9
     loop-again-9

@@ -4,7 +4,7 @@ use Prim.Native.Nat.{_-_}
 use mathlib.Core.Bool.{false}
 use lib.ListN.{length}
 use borrow.Author.Needs.{needs}
-use Rattle.notation.specs.Search.{contains}
+use Rattle.notation.specs.Bytes.{contains}
 use Rattle.token.specs.Token.{articulation}
 use Rattle.plain.specs.Usual.{opened, Marking}
 use Rattle.plain.proofs.ByteLaws.{mark-turn}

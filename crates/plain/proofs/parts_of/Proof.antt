@@ -1,7 +1,7 @@
 -- A length is missing, plain, or a tuplet.
 use mathlib.Core.Path.{refl}
 use borrow.Author.Needs.{needs}
-use Rattle.plain.proofs.ByteLaws.{clash}
+use Rattle.slices.proofs.TestLaws.{not-both}
 use Rattle.plain.proofs.parts_of.Statement.{statement}
 use Rattle.plain.proofs.parts_of.Tie as tie
 
@@ -15,7 +15,7 @@ enum-known-v-2 : tie.Need-enum-known-v-2
 enum-known-v-2 c = search needs
 
 returns : tie.Need-returns
-returns c = λ e s. absurd (clash refl e)
+returns c = λ e s. absurd (not-both refl e)
 
 returns-2 : tie.Need-returns-2
 returns-2 c = λ e s. rw (c .before .v .given .1)

@@ -1,6 +1,6 @@
 -- No pitch, or a run of one letter with its signs.
 use borrow.Author.Needs.{needs}
-use Rattle.plain.proofs.ByteLaws.{clash}
+use Rattle.slices.proofs.TestLaws.{not-both}
 use Rattle.plain.proofs.LineLaws.{sung-pitch}
 use Rattle.plain.proofs.pitch_at.Statement.{statement}
 use Rattle.plain.proofs.pitch_at.Tie as tie
@@ -27,7 +27,7 @@ signs-requires : tie.Need-signs-requires
 signs-requires c κs = search needs
 
 returns : tie.Need-returns
-returns c = λ e. absurd (clash (c .silence .ensures .0) e)
+returns c = λ e. absurd (not-both (c .silence .ensures .0) e)
 
 returns-2 : tie.Need-returns-2
 returns-2 c = λ e. sung-pitch (c .before .before .before .before .before .run-end .ensures) (c .signs .ensures) (c .before .before .before .before .pitch-of .ensures) (c .before .before .step .given .1)

@@ -5,7 +5,7 @@ use mathlib.Core.List.{[], _∷_}
 use lib.ListN.{length}
 use borrow.Author.Tests.{eq-eqb}
 use borrow.Author.Needs.{needs}
-use Rattle.notation.specs.Search.{contains}
+use Rattle.notation.specs.Bytes.{contains}
 use Rattle.plain.specs.Usual.{Run}
 use Rattle.plain.proofs.PieceLaws.{run-first, run-turn}
 use Rattle.plain.proofs.run_end.Statement.{statement}

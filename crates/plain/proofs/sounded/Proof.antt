@@ -31,7 +31,7 @@ returns-2 c = record {
   tone = refl;
   starts = refl;
   ends = refl;
-  odd = refl;
+  unknown = refl;
 }
 
 returns-3 : tie.Need-returns-3

@@ -1,6 +1,6 @@
 -- Nothing, a rest, or what a letter writes.
 use borrow.Author.Needs.{needs}
-use Rattle.plain.proofs.ByteLaws.{clash}
+use Rattle.slices.proofs.TestLaws.{not-both}
 use Rattle.plain.proofs.LineLaws.{sung-rest}
 use Rattle.plain.proofs.sung_at.Statement.{statement}
 use Rattle.plain.proofs.sung_at.Tie as tie
@@ -9,7 +9,7 @@ silence-requires : tie.Need-silence-requires
 silence-requires c κs = search needs
 
 returns : tie.Need-returns
-returns c = λ e. absurd (clash (c .silence .ensures .0) e)
+returns c = λ e. absurd (not-both (c .silence .ensures .0) e)
 
 shared-slice-read-c : tie.Need-shared-slice-read-c
 shared-slice-read-c c = search needs

@@ -8,7 +8,7 @@ repair-notice-requires : tie.Need-repair-notice-requires
 repair-notice-requires c κs = search needs
 
 returns : tie.Need-returns
-returns c = (no-repair-told (c .before .before .before .before .args .repair) (c .before .before .before .before .args .number) (c .before .before .before .before .args .offset) (c .before .before .before .before .args .line .now) (c .before .before .before .before .args .tally) _ (c .before .repair-notice .ensures) (c .if1 .taken), record { active = refl; parts = refl; bars = refl; notes = refl })
+returns c = (no-repair-told (c .before .before .before .before .args .repair) (c .before .before .before .before .args .number) (c .before .before .before .before .args .offset) (c .before .before .before .before .args .line .now) (c .before .before .before .before .args .tally) _ (c .before .repair-notice .ensures) (c .if1 .taken), record { active = refl; parts = refl; bars = refl })
 
 cast-notify : tie.Need-cast-notify
 cast-notify c = search needs

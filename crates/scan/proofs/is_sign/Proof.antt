@@ -1,6 +1,6 @@
 -- Three signs.
 use mathlib.Core.Path.{refl}
-use Rattle.notation.specs.Search.{contains}
+use Rattle.notation.specs.Bytes.{contains}
 use Rattle.scan.proofs.PassLaws.{is-sign, no-sign}
 use Rattle.scan.proofs.is_sign.Statement.{statement}
 use Rattle.scan.proofs.is_sign.Tie as tie

@@ -6,7 +6,7 @@ use lib.ListN.{length}
 use borrow.Author.Needs.{needs}
 use Rattle.items.proofs.NextLaws.{end-on, next-digits, next-letters, next-blank, next-mark}
 use Rattle.scan.proofs.ScanLaws.{Scanning, scan-first, scan-turn, scan-past}
-use Rattle.scan.proofs.OddLaws.{scan-run}
+use Rattle.scan.proofs.UnknownLaws.{scan-run}
 use Rattle.scan.proofs.scan_token.Statement.{statement}
 use Rattle.scan.proofs.scan_token.Tie as tie
 
@@ -100,11 +100,11 @@ loop-less-3 c = omega (arith, c .before .before .before .before .before .before 
 loop-again-3 : tie.Need-loop-again-3 Inv-loop μ-loop
 loop-again-3 c = scan-turn (c .before .before .before .before .before .before .before .before .before .before .loop .inv) (c .before .before .before .before .before .before .before .before .before .loop-test .taken) (next-blank _ _ (c .before .before .before .before .before .before .before .before .before .loop-test .taken) (c .before .before .before .before .before .before .before .is-digit .ensures) (c .before .before .before .before .before .before .if1 .left) (c .before .before .before .before .before .is-letter .ensures) (c .before .before .before .before .if2 .left) (c .before .before .before .if3 .taken)) (c .before .before .step-lengths3 .ensures) (c .before .step-first3 .ensures) (c .step-sounds2 .ensures) refl
 
-is-odd-requires : tie.Need-is-odd-requires Inv-loop μ-loop
-is-odd-requires c κs = search needs
+is-unknown-requires : tie.Need-is-unknown-requires Inv-loop μ-loop
+is-unknown-requires c κs = search needs
 
-odd-end-requires : tie.Need-odd-end-requires Inv-loop μ-loop
-odd-end-requires c κs = (c .before .before .before .before .before .before .before .before .loop-test .taken, sym (c .before .is-odd .ensures) ∙ c .if4 .taken)
+unknown-end-requires : tie.Need-unknown-end-requires Inv-loop μ-loop
+unknown-end-requires c κs = (c .before .before .before .before .before .before .before .before .loop-test .taken, sym (c .before .is-unknown .ensures) ∙ c .if4 .taken)
 
 step-lengths-requires-4 : tie.Need-step-lengths-requires-4 Inv-loop μ-loop
 step-lengths-requires-4 c κs = search needs
@@ -112,17 +112,17 @@ step-lengths-requires-4 c κs = search needs
 step-first-requires-4 : tie.Need-step-first-requires-4 Inv-loop μ-loop
 step-first-requires-4 c κs = search needs
 
-sub-oddly : tie.Need-sub-oddly Inv-loop μ-loop
-sub-oddly c = omega (arith, c .before .before .odd-end .ensures .on)
+sub-with-unknown : tie.Need-sub-with-unknown Inv-loop μ-loop
+sub-with-unknown c = omega (arith, c .before .before .unknown-end .ensures .on)
 
-oddly-requires : tie.Need-oddly-requires Inv-loop μ-loop
-oddly-requires c κs = omega (arith, c .before .before .before .before .before .before .before .before .before .before .before .before .loop .inv .signifiers, c .before .before .odd-end .ensures .on, c .before .before .odd-end .ensures .high)
+with-unknown-requires : tie.Need-with-unknown-requires Inv-loop μ-loop
+with-unknown-requires c κs = omega (arith, c .before .before .before .before .before .before .before .before .before .before .before .before .loop .inv .signifiers, c .before .before .unknown-end .ensures .on, c .before .before .unknown-end .ensures .high)
 
 loop-less-4 : tie.Need-loop-less-4 Inv-loop μ-loop
-loop-less-4 c = omega (arith, c .before .before .before .odd-end .ensures .on, c .before .before .before .odd-end .ensures .high)
+loop-less-4 c = omega (arith, c .before .before .before .unknown-end .ensures .on, c .before .before .before .unknown-end .ensures .high)
 
 loop-again-4 : tie.Need-loop-again-4 Inv-loop μ-loop
-loop-again-4 c = rw (c .oddly .ensures) (scan-run _ (c .before .before .before .before .before .before .before .before .before .before .before .before .before .loop .inv) (c .before .before .before .odd-end .ensures) (c .before .before .step-lengths4 .ensures) (c .before .step-first4 .ensures))
+loop-again-4 c = rw (c .with-unknown .ensures) (scan-run _ (c .before .before .before .before .before .before .before .before .before .before .before .before .before .loop .inv) (c .before .before .before .unknown-end .ensures) (c .before .before .step-lengths4 .ensures) (c .before .step-first4 .ensures))
 
 step-lengths-requires-5 : tie.Need-step-lengths-requires-5 Inv-loop μ-loop
 step-lengths-requires-5 c κs = search needs
@@ -185,12 +185,12 @@ scan-token-spec =
     add-i
     loop-less-3
     loop-again-3
-    is-odd-requires
-    odd-end-requires
+    is-unknown-requires
+    unknown-end-requires
     step-lengths-requires-4
     step-first-requires-4
-    sub-oddly
-    oddly-requires
+    sub-with-unknown
+    with-unknown-requires
     loop-less-4
     loop-again-4
     step-lengths-requires-5

@@ -1,7 +1,7 @@
 -- Seen before, or now.
 use mathlib.Core.Path.{sym}
 use mathlib.Core.Bool.{or-false}
-use Rattle.notation.specs.Search.{contains}
+use Rattle.notation.specs.Bytes.{contains}
 use borrow.Author.Needs.{needs}
 use Rattle.scan.proofs.seen.Statement.{statement}
 use Rattle.scan.proofs.seen.Tie as tie

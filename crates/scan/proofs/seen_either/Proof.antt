@@ -2,7 +2,7 @@
 use mathlib.Core.Path.{sym}
 use mathlib.Core.Bool.{or-false}
 use borrow.Author.Tests.{eq-eqb, ne-eqb}
-use Rattle.notation.specs.Search.{contains}
+use Rattle.notation.specs.Bytes.{contains}
 use borrow.Author.Needs.{needs}
 use Rattle.scan.proofs.seen_either.Statement.{statement}
 use Rattle.scan.proofs.seen_either.Tie as tie

@@ -22,11 +22,11 @@ add-t7 c = search needs
 returns-2 : tie.Need-returns-2
 returns-2 c = rw (c .before .before .before .before .item .given .1, sym (c .before .before .fits2 .ensures) ∙ c .before .if1 .taken)
 
-oddly-requires : tie.Need-oddly-requires
-oddly-requires c κs = search needs
+with-unknown-requires : tie.Need-with-unknown-requires
+with-unknown-requires c κs = search needs
 
 returns-3 : tie.Need-returns-3
-returns-3 c = rw (c .before .before .before .before .item .given .1, sym (c .before .before .fits2 .ensures) ∙ c .before .if1 .left) (c .oddly .ensures)
+returns-3 c = rw (c .before .before .before .before .item .given .1, sym (c .before .before .fits2 .ensures) ∙ c .before .if1 .left) (c .with-unknown .ensures)
 
 enum-told-2 : tie.Need-enum-told-2
 enum-told-2 c = search needs
@@ -43,11 +43,11 @@ passes-requires c κs = search needs
 returns-5 : tie.Need-returns-5
 returns-5 c = rw (c .before .before .before .item2 .given .1, sym (c .before .passes .ensures) ∙ c .if2 .taken)
 
-oddly-requires-2 : tie.Need-oddly-requires-2
-oddly-requires-2 c κs = search needs
+with-unknown-requires-2 : tie.Need-with-unknown-requires-2
+with-unknown-requires-2 c κs = search needs
 
 returns-6 : tie.Need-returns-6
-returns-6 c = rw (c .before .before .before .before .item2 .given .1, sym (c .before .before .passes .ensures) ∙ c .before .if2 .left) (c .oddly2 .ensures)
+returns-6 c = rw (c .before .before .before .before .item2 .given .1, sym (c .before .before .passes .ensures) ∙ c .before .if2 .left) (c .with-unknown2 .ensures)
 
 pub step-sounds-spec : {M : Type 1} → statement M
 step-sounds-spec =
@@ -59,12 +59,12 @@ step-sounds-spec =
     fits-requires
     add-t7
     returns-2
-    oddly-requires
+    with-unknown-requires
     returns-3
     enum-told-2
     returns-4
     enum-known-item-2
     passes-requires
     returns-5
-    oddly-requires-2
+    with-unknown-requires-2
     returns-6)

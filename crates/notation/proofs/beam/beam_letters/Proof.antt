@@ -3,7 +3,7 @@ use Prim.Native.Nat.{_-_}
 use native.Mathlib.Omega.{arith}
 use lib.ListN.{length}
 use borrow.Author.Needs.{needs}
-use Rattle.notation.proofs.SearchLaws.{Seen, seen-first, seen-turn, seen-past}
+use Rattle.notation.proofs.ByteLaws.{Seen, seen-first, seen-turn, seen-past}
 use Rattle.notation.proofs.beam.beam_letters.Statement.{statement}
 use Rattle.notation.proofs.beam.beam_letters.Tie as tie
 

@@ -13,16 +13,16 @@ without-digits-requires c κs = search needs
 enum-known-given : tie.Need-enum-known-given
 enum-known-given c = search needs
 
-noted-requires : tie.Need-noted-requires
-noted-requires c κs = search needs
+by-value-requires : tie.Need-by-value-requires
+by-value-requires c κs = search needs
 
 returns : tie.Need-returns
 returns c = not-given _ _ _ (c .before .enum-told .given .1) (c .without-digits .ensures)
 
 returns-2 : tie.Need-returns-2
-returns-2 c = is-given _ _ _ (c .before .before .given .given .1) (c .noted .ensures)
+returns-2 c = is-given _ _ _ (c .before .before .given .given .1) (c .by-value .ensures)
 
 pub measured-spec : {M : Type 1} → statement M
 measured-spec =
     tie.close
-    (tie.spec enum-told without-digits-requires enum-known-given noted-requires returns returns-2)
+    (tie.spec enum-told without-digits-requires enum-known-given by-value-requires returns returns-2)

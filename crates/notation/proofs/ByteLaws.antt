@@ -9,7 +9,7 @@ use lib.Dec.{eqb}
 use lib.ListN.{length, take, drop, getD, length-drop, drop-of-length-le}
 use borrow.Author.Tests.{eq-eqb, ne-eqb}
 use Rattle.slices.proofs.SplitLaws.{at-index}
-use Rattle.notation.specs.Search.{contains, containsPair, trimStart}
+use Rattle.notation.specs.Bytes.{contains, containsPair, trimStart}
 use Rattle.slices.proofs.PieceLaws.{rest}
 
 -- ---- a byte: `seen` says whether it stands before i

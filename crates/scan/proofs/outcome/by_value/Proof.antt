@@ -1,7 +1,7 @@
 -- By the value.
 use borrow.Author.Needs.{needs}
-use Rattle.scan.proofs.outcome.from_peers.Statement.{statement}
-use Rattle.scan.proofs.outcome.from_peers.Tie as tie
+use Rattle.scan.proofs.outcome.by_value.Statement.{statement}
+use Rattle.scan.proofs.outcome.by_value.Tie as tie
 
 enum-told : tie.Need-enum-told
 enum-told c = search needs
@@ -27,8 +27,8 @@ returns-2 c = rw (c .before .before .v .given .1, c .note-of .ensures)
 returns-3 : tie.Need-returns-3
 returns-3 c = rw (c .before .before .v2 .given .1, c .note-of2 .ensures)
 
-pub from-peers-spec : {M : Type 1} → statement M
-from-peers-spec =
+pub by-value-spec : {M : Type 1} → statement M
+by-value-spec =
     tie.close
     (tie.spec
     enum-told

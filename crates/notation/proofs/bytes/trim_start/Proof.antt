@@ -3,9 +3,9 @@ use Prim.Native.Nat.{_-_}
 use native.Mathlib.Omega.{arith}
 use lib.ListN.{length}
 use borrow.Author.Needs.{needs}
-use Rattle.notation.proofs.SearchLaws.{Trim, trim-first, trim-turn, trim-done, trim-past}
-use Rattle.notation.proofs.search.trim_start.Statement.{statement}
-use Rattle.notation.proofs.search.trim_start.Tie as tie
+use Rattle.notation.proofs.ByteLaws.{Trim, trim-first, trim-turn, trim-done, trim-past}
+use Rattle.notation.proofs.bytes.trim_start.Statement.{statement}
+use Rattle.notation.proofs.bytes.trim_start.Tie as tie
 
 abbrev Inv-loop : tie.InvT-loop
 Inv-loop s b i₀ i = Trim s b i

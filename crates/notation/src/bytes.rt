@@ -1,6 +1,6 @@
 // Bytes sought in a token.
 ghost use mathlib.Core.Path.{_≡_};
-ghost use Rattle.notation.specs.Search.{contains, containsPair, trimStart};
+ghost use Rattle.notation.specs.Bytes.{contains, containsPair, trimStart};
 
 // Whether b stands anywhere in s.
 pub fn contains(s: &[u8], b: u8) -> bool

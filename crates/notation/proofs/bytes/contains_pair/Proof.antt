@@ -3,9 +3,9 @@ use mathlib.Core.Logic.{⊎-elim}
 use Prim.Native.Nat.{_-_}
 use native.Mathlib.Omega.{arith}
 use lib.ListN.{length}
-use Rattle.notation.proofs.SearchLaws.{Pairs, pairs-first, pairs-here, pairs-not-first, pairs-not-second, pairs-past}
-use Rattle.notation.proofs.search.contains_pair.Statement.{statement}
-use Rattle.notation.proofs.search.contains_pair.Tie as tie
+use Rattle.notation.proofs.ByteLaws.{Pairs, pairs-first, pairs-here, pairs-not-first, pairs-not-second, pairs-past}
+use Rattle.notation.proofs.bytes.contains_pair.Statement.{statement}
+use Rattle.notation.proofs.bytes.contains_pair.Tie as tie
 
 abbrev Inv-loop : tie.InvT-loop
 Inv-loop s a b i₀ i = Pairs s a b i

@@ -3,9 +3,9 @@ use Prim.Native.Nat.{_-_}
 use native.Mathlib.Omega.{arith}
 use lib.ListN.{length}
 use mathlib.Core.Bool.{false}
-use Rattle.notation.proofs.SearchLaws.{Seen, seen-first, seen-miss, seen-here, seen-past}
-use Rattle.notation.proofs.search.contains.Statement.{statement}
-use Rattle.notation.proofs.search.contains.Tie as tie
+use Rattle.notation.proofs.ByteLaws.{Seen, seen-first, seen-miss, seen-here, seen-past}
+use Rattle.notation.proofs.bytes.contains.Statement.{statement}
+use Rattle.notation.proofs.bytes.contains.Tie as tie
 
 abbrev Inv-loop : tie.InvT-loop
 Inv-loop s b i₀ i = Seen s b false i
