@@ -19,6 +19,11 @@ extern "C" {
  * acceptance the buffer holds the sheet first and its old bytes behind; after a refusal it is unchanged. */
 uint32_t kern_read(const uint8_t *text, size_t text_len, uint8_t *out, size_t out_len, uint64_t answer[3]);
 
+/* Fills a hole of so many ticks, at so many divisions to the quarter, with hidden rests: NOTE records with part, voice, bar, line and column
+ * 0, for a voice that has so many notes. Answers 0, else 14 where some ticks remain and no value fits them, 15 where the voice would pass
+ * 50,000 notes, 13 where the buffer is too short. `answer` and the buffer are as after kern_read. The rests' lengths add up to the hole. */
+uint32_t kern_gap_rests(uint32_t ticks, uint32_t divisions, uint32_t notes, uint8_t *out, size_t out_len, uint64_t answer[3]);
+
 /* The code and the reason of a notice, 1 to 21, at the start of a buffer where they fit, else the buffer is unchanged. Their length in
  * bytes, 0 for a number that is no notice. No 0 byte ends them. */
 size_t kern_notice_code(uint8_t number, uint8_t *out, size_t out_len);

@@ -302,5 +302,6 @@ pub fn all() -> Vec<(&'static str, Vec<Case>)> {
         ("interpretations", all_interpretations()),
         ("notices", notices()),
         ("names", names()),
+        ("holes", crate::gaps::cases()),
     ]
 }

@@ -3,6 +3,10 @@
 mod bench;
 mod check;
 mod encoder;
+/// The published module of gaps, which names an error of its own crate.
+#[path = "../target/acorde/gap.rs"]
+mod gap;
+mod gaps;
 #[cfg_attr(not(library), allow(dead_code))]
 mod generate;
 mod leaves;
@@ -14,6 +18,11 @@ mod rows;
 mod source;
 mod texts;
 mod tokens;
+
+/// The error of the published module of gaps.
+pub enum Error {
+    Xml(String),
+}
 
 use leaves::Case;
 use std::io::{Read, Write};
@@ -74,10 +83,11 @@ fn compare(kind: &str, program: &str) -> ExitCode {
 }
 
 /// Requests that the replayed list has besides those that are spread over all: document 01's lines that are not marked P, and both edges of rules.
-const PICKED: [&str; 40] = [
+const PICKED: [&str; 47] = [
     "I*M4/+4", "I*M0/4", "I*M255/128", "I*M256/4", "I*M4/3", "I*M004/08", "I*M4", "I*M+4/4", "I*MM119.5", "I*MM119.49", "I*MM65534.5", "I*MM65535.1", "I*MM0.9",
     "I*clefG2", "I*clefGv2", "I*clefC4", "I*clefX", "J*clefG2", "I*k[]", "I*k[f#f#]", "I*k[b-b-b-]", "I*k[##]", "I*k[", "I*met(c)", "I*met(c|)", "I*met(o)",
     "I*G:", "I*e:", "I*abcd:", "I*I\"a", "I*I'a", "I*", "D255", "D256", "D0", "D00", "D000", "D12", "D0008", "D00008",
+    "H0 0 60000 4096", "H480 480 49999 4096", "H480 480 50000 4096", "H15360 480 49999 4096", "H1 0 50000 4096", "H320 480 0 4096", "H96 480 0 4096",
 ];
 
 /// A sample of the cases: the requests into one file, the source's answers into another.
@@ -121,6 +131,8 @@ fn library(words: &[&str]) -> ExitCode {
         ["reader", "short", lines] => reader::short(lines.parse().expect("a number of lines")),
         ["reader", "edges"] => reader::edges(),
         ["reader", seed, texts] => reader::by_seed(seed.parse().expect("a seed"), texts.parse().expect("a number of texts")),
+        ["bench", "gaps"] => gaps::bench(),
+        ["gaps", seed, holes] => gaps::beside(seed.parse().expect("a seed"), holes.parse().expect("a number of holes")),
         ["bench"] => bench::all(""),
         ["bench", kinds] => bench::all(kinds),
         _ => usage(),
@@ -134,7 +146,7 @@ fn library(_: &[&str]) -> ExitCode {
 }
 
 fn usage() -> ExitCode {
-    eprintln!("usage: compare sheet TEXT | compare encoder SEED TEXTS | compare run leaves|rows|tokens|longer-tokens PROGRAM | compare run texts PROGRAM SEED TEXTS | compare sample leaves|rows|tokens|texts REQUESTS ANSWERS | compare reader SEED TEXTS | compare reader short LINES | compare reader edges | compare bench [KIND]");
+    eprintln!("usage: compare sheet TEXT | compare encoder SEED TEXTS | compare run leaves|rows|tokens|longer-tokens PROGRAM | compare run texts PROGRAM SEED TEXTS | compare sample leaves|rows|tokens|texts REQUESTS ANSWERS | compare reader SEED TEXTS | compare reader short LINES | compare reader edges | compare gaps SEED HOLES | compare bench [KIND]");
     ExitCode::from(2)
 }
 
@@ -152,7 +164,7 @@ fn main() -> ExitCode {
         }
         ["encoder", seed, texts] => check::encoder(seed.parse().expect("a seed"), texts.parse().expect("a number of texts")),
         ["sheet", text] => sheet(text),
-        ["reader" | "bench", ..] => library(&words.iter().map(String::as_str).collect::<Vec<_>>()),
+        ["reader" | "gaps" | "bench", ..] => library(&words.iter().map(String::as_str).collect::<Vec<_>>()),
         _ => usage(),
     }
 }

@@ -1,7 +1,7 @@
 //! Ruevault, a verified reader of Humdrum `**kern`, for Rust programs.
 //!
-//! [`sheet_of`] reads a text into a sheet, and [`records`] takes the sheet apart. The reading itself, the words of the notices and the names
-//! of the parts are the proved library's; this crate calls it and keeps no table of its own.
+//! [`sheet_of`] reads a text into a sheet, and [`records`] takes the sheet apart; [`rests_of`] fills a hole with rests. The reading itself,
+//! the rests, the words of the notices and the names of the parts are the proved library's; this crate calls it and keeps no table of its own.
 //!
 //! ```
 //! let sheet = ruevault::sheet_of(b"**kern\n4c\n*-\n").unwrap();
@@ -20,24 +20,44 @@ pub const MAX_TEXT: usize = 67_108_864;
 /// Reads a text into a lent buffer, and answers the sheet's length. After an acceptance the buffer holds the sheet first and its old bytes
 /// behind; after a refusal it is unchanged.
 pub fn read(text: &[u8], out: &mut [u8]) -> Result<usize, Refusal> {
-    let (refused, [number, line, figure]) = proved::read(text, out);
+    answered(proved::read(text, out))
+}
+
+/// The sheet of a text.
+pub fn sheet_of(text: &[u8]) -> Result<Vec<u8>, Refusal> {
+    measured(|out| read(text, out))
+}
+
+/// Fills a hole of so many ticks, at so many divisions to the quarter, with hidden rests in a lent buffer, for a voice of so many notes;
+/// answers the length of their NOTE records. The buffer is as after [`read`].
+pub fn gap_rests(ticks: u32, divisions: u32, notes: u32, out: &mut [u8]) -> Result<usize, Refusal> {
+    answered(proved::gap_rests(ticks, divisions, notes, out))
+}
+
+/// The rests of a hole.
+pub fn rests_of(ticks: u32, divisions: u32, notes: u32) -> Result<Vec<Note>, Refusal> {
+    let bytes = measured(|out| gap_rests(ticks, divisions, notes, out))?;
+    Ok(sheet::notes(&bytes))
+}
+
+fn answered((refused, [number, line, figure]): (u32, [u64; 3])) -> Result<usize, Refusal> {
     match refused {
         0 => Ok(figure as usize),
         _ => Err(Refusal { number: number as u32, line, figure }),
     }
 }
 
-/// The sheet of a text. An empty buffer measures it: 13's figure is the length that the sheet needs.
-pub fn sheet_of(text: &[u8]) -> Result<Vec<u8>, Refusal> {
-    let needed = match read(text, &mut []) {
+/// What is written into a buffer of just its length. An empty buffer measures it: 13's figure is the length needed.
+fn measured(write: impl Fn(&mut [u8]) -> Result<usize, Refusal>) -> Result<Vec<u8>, Refusal> {
+    let needed = match write(&mut []) {
         Ok(length) => length,
         Err(Refusal { number: 13, figure, .. }) => figure as usize,
         Err(refusal) => return Err(refusal),
     };
-    let mut sheet = vec![0; needed];
-    let length = read(text, &mut sheet)?;
-    sheet.truncate(length);
-    Ok(sheet)
+    let mut bytes = vec![0; needed];
+    let length = write(&mut bytes)?;
+    bytes.truncate(length);
+    Ok(bytes)
 }
 
 /// The code of a notice, 1 to 21; empty for a number that is no notice.

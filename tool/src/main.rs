@@ -1,4 +1,5 @@
-//! `ruevault read FILE -o SHEET` writes the sheet of a text, `ruevault show FILE` prints it in words.
+//! `ruevault read FILE -o SHEET` writes the sheet of a text, `ruevault show FILE` prints it in words, `ruevault rests TICKS DIVISIONS` the
+//! rests of a hole.
 mod refused;
 mod rows;
 mod show;
@@ -12,11 +13,13 @@ use std::process::ExitCode;
 
 const USAGE: &str = "usage: ruevault read FILE -o SHEET
        ruevault show FILE
+       ruevault rests TICKS DIVISIONS [NOTES]
 
 FILE is a Humdrum **kern text of at most 64 MiB; - is standard input, and -o - standard output.
 read writes the text's sheet (docs/SHEET.md), show prints it in words. Under a bar in which spines split, join, exchange, are added or end
 it prints those lines of the text, and [12] before a note of such a bar is the note's line.
-Exit status: 0, 1 for a text that is refused, 2 for usage and file errors.";
+rests prints the hidden rests that fill a hole of TICKS, at DIVISIONS to the quarter, in a voice of NOTES notes (0).
+Exit status: 0, 1 for a text or a hole that is refused, 2 for usage and file errors.";
 
 /// What ends a run before its end.
 enum Stop {
@@ -29,6 +32,7 @@ enum Stop {
 enum Command {
     Read { file: OsString, sheet: OsString },
     Show { file: OsString },
+    Rests { ticks: u32, divisions: u32, notes: u32 },
     Help,
 }
 
@@ -43,6 +47,9 @@ fn command(mut words: Vec<OsString>) -> Result<Command, Stop> {
     if words.iter().any(|w| w == "--help" || w == "-h") {
         return Ok(Command::Help);
     }
+    if words.first().is_some_and(|w| w == "rests") {
+        return rests(&words[1..]).ok_or(Stop::Usage);
+    }
     let sheet = take_sheet(&mut words)?;
     if words.iter().skip(1).any(|w| w != "-" && w.as_encoded_bytes().starts_with(b"-")) {
         return Err(Stop::Usage);
@@ -52,6 +59,16 @@ fn command(mut words: Vec<OsString>) -> Result<Command, Stop> {
         (Some("read"), Some(sheet)) => Ok(Command::Read { file, sheet }),
         (Some("show"), None) => Ok(Command::Show { file }),
         _ => Err(Stop::Usage),
+    }
+}
+
+/// Ticks, divisions, and the voice's notes, 0 where they aren't given.
+fn rests(words: &[OsString]) -> Option<Command> {
+    let numbers: Option<Vec<u32>> = words.iter().map(|w| w.to_str()?.parse().ok()).collect();
+    match numbers?[..] {
+        [ticks, divisions] => Some(Command::Rests { ticks, divisions, notes: 0 }),
+        [ticks, divisions, notes] => Some(Command::Rests { ticks, divisions, notes }),
+        _ => None,
     }
 }
 
@@ -77,6 +94,12 @@ fn run(command: Command) -> Result<(), Stop> {
             let (text, sheet) = read(&file)?;
             let mut out = BufWriter::new(io::stdout().lock());
             let shown = show::show(&text, &sheet, &mut out).and_then(|()| out.flush());
+            unless_closed(shown).map_err(|e| Stop::File("standard output".into(), e))
+        }
+        Command::Rests { ticks, divisions, notes } => {
+            let rests = ruevault::rests_of(ticks, divisions, notes).map_err(|refusal| Stop::Refused(Vec::new(), refusal))?;
+            let mut out = BufWriter::new(io::stdout().lock());
+            let shown = rests.iter().try_for_each(|rest| writeln!(out, "{}", words::note(rest))).and_then(|()| out.flush());
             unless_closed(shown).map_err(|e| Stop::File("standard output".into(), e))
         }
         Command::Help => unless_closed(writeln!(io::stdout(), "{USAGE}")).map_err(|e| Stop::File("standard output".into(), e)),

@@ -2,6 +2,7 @@
 
 unsafe extern "C" {
     fn kern_read(text: *const u8, text_len: usize, out: *mut u8, out_len: usize, answer: *mut [u64; 3]) -> u32;
+    fn kern_gap_rests(ticks: u32, divisions: u32, notes: u32, out: *mut u8, out_len: usize, answer: *mut [u64; 3]) -> u32;
     fn kern_notice_code(number: u8, out: *mut u8, out_len: usize) -> usize;
     fn kern_notice_reason(number: u8, out: *mut u8, out_len: usize) -> usize;
     fn kern_part_name(text: *const u8, text_len: usize, given: u8, at: u32, len: u32, part: u8, out: *mut u8, out_len: usize) -> usize;
@@ -12,6 +13,15 @@ pub fn read(text: &[u8], out: &mut [u8]) -> (u32, [u64; 3]) {
     let mut answer = [0; 3];
     // SAFETY: a slice's address is never null and goes with its own length; `text` is lent unchanged, and `out` and `answer` alone to this call.
     let number = unsafe { kern_read(text.as_ptr(), text.len(), out.as_mut_ptr(), out.len(), &mut answer) };
+    (number, answer)
+}
+
+/// The same of the rests of a hole.
+pub fn gap_rests(ticks: u32, divisions: u32, notes: u32, out: &mut [u8]) -> (u32, [u64; 3]) {
+    let mut answer = [0; 3];
+    // SAFETY: the address is a slice's, never null, with its own length, and `out` and `answer` are lent to this call alone. The function
+    // is total in `ticks`, `divisions` and `notes`: it requires nothing of them.
+    let number = unsafe { kern_gap_rests(ticks, divisions, notes, out.as_mut_ptr(), out.len(), &mut answer) };
     (number, answer)
 }
 

@@ -1,7 +1,7 @@
 //! A refusal, and what it says in words.
 use std::{error, fmt};
 
-/// Why a text is not read: the number of the question that it doesn't pass, the line (0 where no record is at fault) and the figure.
+/// Why a text is not read, or a hole not filled: the number of the question that it doesn't pass, the line (0 where no record is at fault) and the figure.
 #[derive(Clone, Copy, Debug, PartialEq, Eq)]
 pub struct Refusal {
     pub number: u32,
@@ -25,7 +25,9 @@ impl fmt::Display for Refusal {
             10 => write!(f, "The record has a note past the 100,000th, which is the last that can be read."),
             11 => write!(f, "The text has no header."),
             12 => write!(f, "The text has no note."),
-            13 => write!(f, "The buffer is too short for the sheet, which has {figure} bytes."),
+            13 => write!(f, "The buffer is too short for what is written, which has {figure} bytes."),
+            14 => write!(f, "No value fits the ticks that remain of the hole."),
+            15 => write!(f, "The voice would have more than 50,000 notes."),
             number => write!(f, "The text is refused with {number}, figure {figure}."),
         }
     }

@@ -75,6 +75,9 @@ impl Note {
     pub fn slash(&self) -> bool {
         self.flag(6)
     }
+    pub fn hidden(&self) -> bool {
+        self.flag(7)
+    }
     fn flag(&self, bit: u8) -> bool {
         self.flags >> bit & 1 == 1
     }
@@ -162,6 +165,11 @@ pub fn head(sheet: &[u8]) -> Option<Head> {
 pub fn walk(sheet: &[u8]) -> Records<'_> {
     let length = head(sheet).map_or(0, |h| h.length as usize).min(sheet.len());
     Records { rest: sheet.get(16..length).unwrap_or_default() }
+}
+
+/// The NOTEs of records that stand without a head.
+pub fn notes(records: &[u8]) -> Vec<Note> {
+    Records { rest: records }.filter_map(|record| if let Record::Note(note) = record { Some(note) } else { None }).collect()
 }
 
 /// The walk over a sheet.

@@ -62,7 +62,7 @@ fn pitch(p: &Pitch) -> String {
     }
 }
 
-/// Ties, slurs, beam and articulations, in brackets where there are any.
+/// Whether it is hidden, its ties, slurs, beam and articulations, in brackets where there are any.
 fn marks(n: &Note) -> String {
     let mut said = Vec::new();
     let mut say = |given: bool, word: &'static str| {
@@ -70,6 +70,7 @@ fn marks(n: &Note) -> String {
             said.push(word);
         }
     };
+    say(n.hidden(), "hidden");
     say(n.tie_end(), "tie end");
     say(n.tie_start(), "tie start");
     say(n.slur_end(), "slur end");

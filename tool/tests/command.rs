@@ -169,3 +169,17 @@ fn usage_and_file_errors() {
     assert_eq!(run(&["read", SEXTET, "-o", "/no/such/folder/a"], b"").status, 2);
     assert_eq!(run(&["--help"], b"").status, 0);
 }
+
+#[test]
+fn rests_of_a_hole() {
+    assert_eq!(run(&["rests", "8000", "480"], b"").said, "longa rest (hidden)\nquarter 3:2 rest (hidden)\n");
+    assert_eq!(run(&["rests", "96", "480", "49999"], b"").said, "sixteenth 5:4 rest (hidden)\n");
+    assert_eq!(run(&["rests", "0", "480"], b"").said, "");
+    let full = run(&["rests", "96", "480", "50000"], b"");
+    assert_eq!((full.status, full.out.len()), (1, 0));
+    assert_eq!(full.err, "refused: The voice would have more than 50,000 notes.\nnumber 15, line 0, figure 0\n");
+    assert_eq!(run(&["rests", "1", "0"], b"").err, "refused: No value fits the ticks that remain of the hole.\nnumber 14, line 0, figure 0\n");
+    for words in [&["rests"][..], &["rests", "1"], &["rests", "1", "two"], &["rests", "1", "2", "3", "4"], &["rests", "4294967296", "1"], &["rests", "-1", "1"]] {
+        assert_eq!(run(words, b"").status, 2);
+    }
+}

@@ -106,3 +106,18 @@ fn bytes_that_are_no_sheet() {
         ruevault::records(&other);
     }
 }
+
+#[test]
+fn holes_in_a_buffer_that_is_lent() {
+    let mut out = [7; 60];
+    assert_eq!(ruevault::gap_rests(8000, 480, 0, &mut out), Ok(56));
+    assert_eq!(out[..4], [1, 0, 0, 0]);
+    assert_eq!((out[28..32].to_vec(), out[43..46].to_vec(), out[56..].to_vec()), (vec![1, 0, 0, 4], vec![129, 3, 2], vec![7; 4]));
+    let mut short = [7; 55];
+    assert_eq!(ruevault::gap_rests(8000, 480, 0, &mut short), Err(refusal(13, 0, 56)));
+    assert_eq!(ruevault::gap_rests(8000, 480, 49_999, &mut short), Err(refusal(15, 0, 0)));
+    assert_eq!(ruevault::gap_rests(1, 0, 0, &mut short), Err(refusal(14, 0, 0)));
+    assert_eq!(short, [7; 55]);
+    let rests = ruevault::rests_of(320, 480, 0).unwrap();
+    assert!(matches!(rests[..], [Note { value: 4, actual: 3, normal: 2, part: 0, line: 0, .. }]) && rests[0].rest() && rests[0].hidden());
+}

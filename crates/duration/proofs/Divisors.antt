@@ -1,11 +1,11 @@
 -- Euclid's algorithm: what the loop of `gcd` keeps, and that the result is the greatest common divisor.
-use mathlib.Core.Path.{_≡_, refl}
+use mathlib.Core.Path.{_≡_, refl, sym, subst}
 use mathlib.Core.Bool.{Bool, true, false, cond}
 use Prim.Native.Nat.{ℕ, zero, suc, _%_, _≤_, _<_, _∣_}
-use native.Mathlib.Nat.{mod-lt, le-refl, dvd-mod-iff}
+use native.Mathlib.Nat.{mod-lt, le-refl, dvd-refl, dvd-zero, dvd-mod-iff}
 use native.Mathlib.Omega.{arith}
 use lib.Dec.{eqb}
-use borrow.Author.Tests.{eqb-false, ne-eqb}
+use borrow.Author.Tests.{eqb-true, eqb-false, ne-eqb}
 use Rattle.duration.specs.Duration.{gcdIn, gcdOf}
 
 -- the loop of `gcd`: a and b have the divisor g, found in as many steps as are left, which b bounds
@@ -58,3 +58,21 @@ greatest d (suc f) a b h k =
 
 pub gcd-greatest : (d a b : ℕ) → d ∣ a → d ∣ b → d ∣ gcdOf a b
 gcd-greatest d a b = greatest d b a b
+
+-- it divides both
+divides-by : (a b g : ℕ) (t : Bool) → eqb b 0 ≡ t → ((b ≡ 0 → ⊥) → (g ∣ a) × (g ∣ b)) → (cond t a g ∣ a) × (cond t a g ∣ b)
+divides-by a b g true e k = (dvd-refl a, subst (λ (x : ℕ). a ∣ x) (sym (eqb-true b 0 e)) (dvd-zero a))
+divides-by a b g false e k = k (eqb-false b 0 e)
+
+divides : (f a b : ℕ) → b ≤ f → (gcdIn f a b ∣ a) × (gcdIn f a b ∣ b)
+unfolding gcdIn
+divides zero a b h = (dvd-refl a, subst (λ (x : ℕ). a ∣ x) (omega arith) (dvd-zero a))
+divides (suc f) a b h =
+    divides-by a b (gcdIn f b (a % b)) (eqb b 0) refl
+    (λ nz.
+    let lt : a % b < b = mod-lt a (omega arith) in
+    let d = divides f b (a % b) (omega arith) in
+    (dvd-mod-iff (gcdIn f b (a % b)) (d .0) .0 (d .1), d .0))
+
+pub gcd-divides : (a b : ℕ) → (gcdOf a b ∣ a) × (gcdOf a b ∣ b)
+gcd-divides a b = divides b a b (le-refl b)

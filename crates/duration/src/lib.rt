@@ -56,7 +56,7 @@ fn exponent(n: u32) -> u32
 }
 
 // The greatest common divisor.
-fn gcd(n: u32, d: u32) -> u32
+pub fn gcd(n: u32, d: u32) -> u32
     ensures { λ r. ⌜ r ≡ gcdOf n d ⌝ }
 {
     let mut a = n;

@@ -38,8 +38,7 @@ pub other-told : (token : List ℕ) (k j at : ℕ) (t r : Tally) (out last : Lis
     → Same t r × ((cells parts : List ℕ) → told (Goes r) cells parts last ≡ landed (goes (noticeOther k j at token (stateOf cells parts t))) out (t .at))
 unfolding noticeOther
 other-told token k j at t r out last e w =
-    let n = noticeOf 2 k j (spanOf at (length token)) in
-    (
+    let n = noticeOf 2 k j (spanOf at (length token)) in (
       subst (Same t) (sym (w .1)) (kept-same t n []),
       λ cells parts.
           ap₂ (λ (x : Tally) (y : List ℕ). told (Goes x) cells parts y) (w .1) (w .0)

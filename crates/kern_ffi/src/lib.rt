@@ -1,4 +1,6 @@
 // The reader for C and Rust. A slice is passed as its address and its length.
+pub mod rests;
+
 use reader::Answer;
 ghost use mathlib.Core.Path.{_≡_};
 ghost use mathlib.Core.List.{[], _∷_};

@@ -1,5 +1,6 @@
 // Answers requests about the reader's leaves, a request and an answer to a line. The first byte of a request names the leaf.
 use duration::Value;
+use gap::Answer;
 use interpretation::Interpretation;
 use notation::beam::Beam;
 use pitch::Pitch;
@@ -193,6 +194,80 @@ fn name_of(part: u8) {
     print(names::part_name(b"", &names[..], false, 0, 0, part));
 }
 
+// The number that up to ten digits write, below 2^32.
+fn number_of(s: &[u8]) -> u32 {
+    let mut n: u64 = 0;
+    let mut i = 0;
+    while i < s.len() {
+        n = n % 1000000000 * 10 + (s[i] % 16) as u64;
+        i += 1;
+    }
+    (n % 4294967296) as u32
+}
+
+// What stands behind the first blank.
+fn behind_blank(s: &[u8]) -> &[u8] {
+    let end = slices::find(s, b' ');
+    if s.len() <= end {
+        return slices::piece(s, 0, 0);
+    }
+    slices::piece(s, end + 1, s.len())
+}
+
+// What stands before it.
+fn before_blank(s: &[u8]) -> &[u8] {
+    slices::piece(s, 0, slices::find(s, b' '))
+}
+
+// Value, actual and normal of each rest of so many bytes.
+fn print_rests(rests: &[u8]) {
+    let mut i = 0;
+    while i < rests.len() {
+        if 28 <= rests.len() - i {
+            next_number(rests[i + 3] as u64);
+            next_number(rests[i + 16] as u64);
+            next_number(rests[i + 17] as u64);
+            i += 28;
+        } else {
+            i = rests.len();
+        }
+    }
+}
+
+// H: ticks, divisions, the voice's notes and the buffer's length, to the answer and the rests.
+fn print_hole(body: &[u8], out: &mut [u8]) {
+    let ticks = number_of(before_blank(body));
+    let second = behind_blank(body);
+    let divisions = number_of(before_blank(second));
+    let third = behind_blank(second);
+    let notes = number_of(before_blank(third));
+    let room = number_of(behind_blank(third)) as usize;
+    if out.len() < room {
+        return;
+    }
+    match gap::gap_rests(ticks, divisions, notes, &mut out[..room]) {
+        Answer::Refused {
+            number,
+            line,
+            figure,
+        } => {
+            io::print_decimal(1, number as u64);
+            next_number(line as u64);
+            next_number(figure as u64);
+        }
+        Answer::Accepted(long) => {
+            print(b"0 0");
+            next_number(long as u64);
+            print_rests(slices::piece(out, 0, long));
+        }
+    }
+}
+
+fn hole_of(body: &[u8]) {
+    let mut out = [0u8; 4096];
+    print_hole(body, &mut out);
+}
+
 fn answer(request: &[u8]) {
     if request.len() == 0 {
         return;
@@ -214,6 +289,7 @@ fn answer(request: &[u8]) {
         b'J' => interpretation_of(body, true),
         b'N' => notice_of((small_number(body) % 256) as u8),
         b'S' => name_of((small_number(body) % 256) as u8),
+        b'H' => hole_of(body),
         _ => print(b"?"),
     }
 }

@@ -1,5 +1,5 @@
 -- NOTE: its length, its bytes, and the NOTE that the player reads back with its pitches and articulations.
-use mathlib.Core.Path.{_≡_, refl, sym, ap, _∙_}
+use mathlib.Core.Path.{_≡_, refl, ap, _∙_}
 use Prim.Native.Nat.{ℕ, _+_, _*_}
 use native.Mathlib.Omega.{arith}
 use mathlib.Core.List.{List, [], _∷_, _++_, append-assoc}
@@ -21,11 +21,6 @@ pub pitches-length : (ps : List Pitch) → length (pitchesBytes ps) ≡ 3 * leng
 unfolding pitchesBytes pitchBytes
 pitches-length [] = refl
 pitches-length (p ∷ ps) = omega (arith, pitches-length ps)
-
-pub pitches-append : (ps qs : List Pitch) → pitchesBytes (ps ++ qs) ≡ pitchesBytes ps ++ pitchesBytes qs
-unfolding pitchesBytes
-pitches-append [] qs = refl
-pitches-append (p ∷ ps) qs = ap (λ (l : List ℕ). pitchBytes p ++ l) (pitches-append ps qs) ∙ sym (append-assoc (pitchBytes p) (pitchesBytes ps) (pitchesBytes qs))
 
 pub NOTE-length : (n : Note) (ps : List Pitch) (marks : List ℕ) → length (recordBytes (NOTE n ps marks)) ≡ 28 + 3 * length ps + length marks
 unfolding recordBytes
