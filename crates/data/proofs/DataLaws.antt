@@ -6,7 +6,7 @@ use native.Mathlib.Omega.{arith}
 use mathlib.Core.List.{List, [], _∷_, map}
 use mathlib.Core.Bool.{Bool}
 use lib.ListN.{length, take, drop, getD, length-drop, drop-of-length-le}
-use lib.Seq.{length-take-le}
+use lib.Seq.{length-take-le, getD-drop, drop-drop}
 use Rattle.slices.specs.Split.{pieces, pieceAt}
 use Rattle.slices.proofs.SplitLaws.{no-piece}
 use Rattle.slices.proofs.TestLaws.{clash}
@@ -104,12 +104,27 @@ pub record Reading (whole : Landed) (line row parts₀ out₀ : List ℕ) (t₀ 
   pub long : length parts ≡ length parts₀
   pub wide : length out ≡ length out₀
   pub kept : Same t₀ t
+  pub here : pieces 9 from line ≡ drop i (tokensOf line)
   pub same : whole ≡ landed (rest line row k offset from i (stateOf row parts t)) out (t .at)
 
 -- what a data record comes to
 abbrev pub wholeData : List ℕ → List ℕ → List ℕ → List ℕ → Tally → ℕ → ℕ → Landed
 wholeData line row parts out t k offset =
     landed (notes.readData k (placed offset (take (length row) (tokensOf line))) (stateOf row parts t)) out (t .at)
+
+pub first-piece : (line : List ℕ) → pieces 9 0 line ≡ drop 0 (tokensOf line)
+unfolding pieces
+first-piece line = refl
+
+-- the token of column i, and those behind it
+module _ (i : ℕ) {line : List ℕ} {from e : ℕ} (h : pieces 9 from line ≡ drop i (tokensOf line)) (p : Piece 9 line from e) where
+  pub token-here : getD (tokensOf line) i [] ≡ pieceAt line from (e - from)
+  token-here =
+      let z : i ≡ i + 0 = omega arith in
+      ap (λ (n : ℕ). getD (tokensOf line) n []) z ∙ sym (getD-drop i (tokensOf line) 0 []) ∙ ap (λ (l : List (List ℕ)). getD l 0 []) (sym h ∙ p .here)
+
+  pub tokens-behind : pieces 9 (e + 1) line ≡ drop (i + 1) (tokensOf line)
+  tokens-behind = ap (drop 1) (sym (p .here) ∙ h) ∙ drop-drop 1 i (tokensOf line)
 
 pub data-first : (line row parts out : List ℕ) (t : Tally) (k offset : ℕ) → Reading (wholeData line row parts out t k offset) line row parts out t k offset parts out t 0 0
 unfolding notes.readData pieces
@@ -122,6 +137,7 @@ data-first line row parts out t k offset =
       long = refl;
       wide = refl;
       kept = same t;
+      here = first-piece line;
       same = ap (λ (all : List (List ℕ)). landed (notes.readTokens all (map isKernSpine (rowOf row)) k 0 (rowOf row) (placed offset ts) (stateOf row parts t)) out (t .at)) (placed-bytes offset ts)
           ∙ ap₂ (λ (m a : ℕ). landed (notes.readTokens ts (map isKernSpine (rowOf row)) k 0 (rowOf row) (placed a (take m (tokensOf line))) (stateOf row parts t)) out (t .at)) n z;
     }
@@ -167,6 +183,7 @@ module _ {whole : Landed} {line row parts₀ out₀ : List ℕ} {t₀ : Tally} {
           long = lp ∙ inv .long;
           wide = lo ∙ inv .wide;
           kept = same-same (inv .kept) keeps′;
+          here = tokens-behind i (inv .here) p;
           same = here
               ∙ then-goes (columnStep line row (record { index = i; from = from; end = e; line = k; offset = offset }) (stateOf row parts t)) (rest line row k offset (e + 1) (i + 1)) out out′ (t .at) (u .at) (stateOf row parts′ u) tells′;
         }

@@ -3,8 +3,9 @@ use mathlib.Core.Path.{_≡_, refl, sym, ap, subst, _∙_}
 use Prim.Native.Nat.{ℕ, _+_, _-_, _%_, _^_, _≤_, _<_}
 use native.Mathlib.Omega.{arith}
 use mathlib.Core.List.{List}
-use lib.ListN.{length, getD}
-use Rattle.slices.specs.Split.{pieceAt}
+use lib.ListN.{length, drop, getD}
+use Rattle.slices.specs.Split.{pieces, pieceAt}
+use Rattle.lines.specs.Tokens.{tokensOf}
 use Rattle.state.specs.Counts.{Same}
 use Rattle.state.proofs.CountLaws.{same, same-same}
 use Rattle.lines.specs.Lines.{pieceEnd}
@@ -34,10 +35,10 @@ use Rattle.data.proofs.DataLaws.{Reading, wholeData, data-first, data-t
 abbrev pub wholeRest : List ℕ → List ℕ → List ℕ → List ℕ → Tally → ℕ → ℕ → ℕ → ℕ → Landed
 wholeRest line row parts out t k offset from i = landed (rest line row k offset from i (stateOf row parts t)) out (t .at)
 
-pub stretch-first : (line row parts out : List ℕ) (t : Tally) (k offset from i : ℕ) → i ≤ length row
+pub stretch-first : (line row parts out : List ℕ) (t : Tally) (k offset from i : ℕ) → i ≤ length row → pieces 9 from line ≡ drop i (tokensOf line)
     → Reading (wholeRest line row parts out t k offset from i) line row parts out t k offset parts out (countsAt t (t .notes) (t .at)) from i
-stretch-first line row parts out t k offset from i h =
-    record { high = h; long = refl; wide = refl; kept = record { active = refl; parts = refl; bars = refl }; same = refl }
+stretch-first line row parts out t k offset from i h p =
+    record { high = h; long = refl; wide = refl; kept = record { active = refl; parts = refl; bars = refl }; here = p; same = refl }
 
 module _ {whole : Landed} {line row parts₀ out₀ : List ℕ} {t₀ : Tally} {k offset : ℕ} {parts out : List ℕ} {n at from i : ℕ}
     (inv : Reading whole line row parts₀ out₀ t₀ k offset parts out (countsAt t₀ n at) from i) (h : i < length row) (low : from ≤ length line) where
@@ -95,7 +96,7 @@ module _ {whole : Landed} {line row parts₀ out₀ : List ℕ} {t₀ : Tally} {
 pub stretch-ends : {line row parts₀ out₀ : List ℕ} {t : Tally} {k offset from₀ i₀ : ℕ} {parts out : List ℕ} {from i n at : ℕ} → i₀ ≤ i
     → Reading (wholeRest line row parts₀ out₀ t k offset from₀ i₀) line row parts₀ out₀ t k offset parts out (countsAt t n at) from i
     → Stretched line row parts₀ out₀ t k offset from₀ i₀ parts out (record { from = from; index = i; notes = n; at = at })
-stretch-ends low inv = record { low = low; high = inv .high; same = inv .same }
+stretch-ends low inv = record { low = low; high = inv .high; here = inv .here; same = inv .same }
 
 -- ---- a stretch, and a column that is read by itself
 -- the record from its first stretch on
@@ -120,9 +121,9 @@ begun-ready s r l e = rw e (record {
   within = r .within;
 })
 
-pub rest-first : {line row parts out : List ℕ} {t : Tally} {k offset from i : ℕ} → i ≤ length row
+pub rest-first : {line row parts out : List ℕ} {t : Tally} {k offset from i : ℕ} → i ≤ length row → pieces 9 from line ≡ drop i (tokensOf line)
     → Reading (wholeRest line row parts out t k offset from i) line row parts out t k offset parts out t from i
-rest-first {t = t} h = record { high = h; long = refl; wide = refl; kept = same t; same = refl }
+rest-first {t = t} h p = record { high = h; long = refl; wide = refl; kept = same t; here = p; same = refl }
 
 -- one stretch more
 pub stretch-turn : {whole : Landed} {line row parts₀ out₀ : List ℕ} {t₀ : Tally} {k offset : ℕ} {parts out parts′ out′ : List ℕ} {u t : Tally} {from i : ℕ} {s : Stretch}
@@ -134,5 +135,6 @@ stretch-turn {line = line} {row = row} {k = k} {offset = offset} {parts′ = par
   long = lp ∙ inv .long;
   wide = lo ∙ inv .wide;
   kept = same-same (inv .kept) (begun-kept s e);
+  here = h .here;
   same = inv .same ∙ h .same ∙ ap (λ (w : Tally). wholeRest line row parts′ out′ w k offset (s .from) (s .index)) (sym e);
 }

@@ -3,7 +3,9 @@ use mathlib.Core.Path.{_≡_}
 use Prim.Native.Nat.{ℕ, _%_, _≤_, _<_}
 use mathlib.Core.Bool.{Bool, true}
 use mathlib.Core.List.{List}
-use lib.ListN.{length}
+use lib.ListN.{length, drop}
+use Rattle.slices.specs.Split.{pieces}
+use Rattle.lines.specs.Tokens.{tokensOf}
 use Rattle.state.specs.declared.Tally.{Tally}
 use Rattle.state.specs.View.{stateOf, landed}
 use Rattle.data.specs.declared.Stretch.{Stretch}
@@ -38,5 +40,6 @@ withStretch t s = countsAt t (s .notes) (s .at)
 pub record Stretched (line row parts₀ out₀ : List ℕ) (t : Tally) (k offset from i : ℕ) (parts out : List ℕ) (s : Stretch) : Type 0 where
   pub low : i ≤ s .index
   pub high : s .index ≤ length row
+  pub here : pieces 9 (s .from) line ≡ drop (s .index) (tokensOf line)
   pub same : landed (rest line row k offset from i (stateOf row parts₀ t)) out₀ (t .at)
       ≡ landed (rest line row k offset (s .from) (s .index) (stateOf row parts (withStretch t s))) out (s .at)

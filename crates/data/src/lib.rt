@@ -6,19 +6,18 @@ use state::Step;
 use state::Tally;
 ghost use mathlib.Core.Path.{_≡_};
 ghost use mathlib.Core.Bool.{true};
-ghost use mathlib.Core.List.{map};
-ghost use Prim.Native.Nat.{ℕ, _+_, _^_, _≤_, _<_};
-ghost use lib.ListN.{length, take};
+ghost use Prim.Native.Nat.{ℕ, _+_, _-_, _^_, _≤_, _<_};
+ghost use lib.ListN.{length, take, drop};
+ghost use Rattle.slices.specs.Split.{pieces, pieceAt};
 ghost use Rattle.lines.specs.Tokens.{tokensOf};
-ghost use Rattle.duration.specs.Duration.{durationOf};
-ghost use Rattle.spines.specs.Cells.{rowOf};
-ghost use Rattle.reading.specs.Bars.{isKernSpine};
+ghost use Rattle.peers.specs.Peers.{isBare};
 ghost use Rattle.reading.specs.Notices.{placed};
-ghost use Rattle.reading.specs.Notes.{inferredFor, readData};
+ghost use Rattle.reading.specs.Notes.{readData};
 ghost use Rattle.state.specs.Ready.{Ready};
 ghost use Rattle.state.specs.View.{stateOf, landed, told};
 ghost use Rattle.notes.specs.Spot.{spotAt, Kept};
 ghost use Rattle.data.specs.Column.{columnStep};
+ghost use Rattle.data.specs.Asked.{RightlyAsked, askedBy, inferredBy, Entered};
 ghost use Rattle.data.specs.Stretch.{AtOnce, withStretch, Stretched};
 
 // The spot of a kern line's cell, in a column from 0.
@@ -44,12 +43,45 @@ struct Column {
     offset: u32,
 }
 
-// The value that the peers of a column give a bare token; Missing for any other.
-fn infer(line: &[u8], row: &[u16], i: usize, token: &[u8]) -> Value
-    ensures { λ r. ⌜ r ≡ durationOf (inferredFor (take (length (now (row .entry))) (tokensOf (now (line .entry)))) (map isKernSpine (rowOf (now (row .entry)))) i (now (token .entry))) ⌝ }
+// What a record gives its bare columns: not asked for yet, or a value, Missing where the others don't agree.
+enum Asked {
+    Unasked,
+    Given(Value),
+}
+
+// The record is asked at its first bare token, the one from `from` to `end`, and what it gave is kept.
+fn ask(line: &[u8], row: &[u16], asked: Asked, from: usize, end: usize) -> Asked
+    requires { ⌜ RightlyAsked (now line) (now row) asked × ((from ≤ end) × (end ≤ length (now line))) ⌝ }
+    ensures { λ r. ⌜ (r ≡ askedBy (isBare (pieceAt (now (line .entry)) from (end - from))) (now (line .entry)) (now (row .entry)) asked) × RightlyAsked (now (line .entry)) (now (row .entry)) r ⌝ }
+{
+    let token = &line[from..end];
+    if peers::is_bare(token) {
+        match asked {
+            Asked::Unasked => {
+                let value = peers::agreed_duration(line, row);
+                return Asked::Given(value);
+            }
+            Asked::Given(_) => {
+                return asked;
+            }
+        }
+    }
+    asked
+}
+
+// The value that a bare token gets; Missing for any other.
+fn infer(asked: Asked, token: &[u8]) -> Value
+    ensures { λ r. ⌜ r ≡ inferredBy (isBare (now (token .entry))) asked ⌝ }
 {
     if peers::is_bare(token) {
-        return peers::peer_duration(line, row, i);
+        match asked {
+            Asked::Unasked => {
+                return Value::Missing;
+            }
+            Asked::Given(value) => {
+                return value;
+            }
+        }
     }
     Value::Missing
 }
@@ -59,11 +91,12 @@ fn read_column(
     line: &[u8],
     row: &[u16],
     column: Column,
+    asked: Asked,
     parts: &mut [u32],
     tally: Tally,
     out: &mut [u8],
 ) -> Step
-    requires { ⌜ Ready (now row) (now parts) tally × ((column .offset + length (now line) < 2 ^ 27) × ((column .index < length (now row)) × ((column .from ≤ column .end) × (column .end ≤ length (now line))))) ⌝ }
+    requires { ⌜ Ready (now row) (now parts) tally × ((column .offset + length (now line) < 2 ^ 27) × Entered (now line) (now row) column asked) ⌝ }
     ensures { λ r. ⌜ (told r (now (row .entry)) (now (parts .exit)) (now (out .exit)) ≡ landed (columnStep (now (line .entry)) (now (row .entry)) column (stateOf (now (row .entry)) (now (parts .entry)) tally)) (now (out .entry)) (tally .at)) × Kept tally r ⌝ }
 {
     let i = column.index;
@@ -77,7 +110,7 @@ fn read_column(
         return Step::Goes(tally);
     }
     let token = &line[from..end];
-    let inferred = infer(line, row, i, token);
+    let inferred = infer(asked, token);
     let spot = spot_at(cell, i, column.line, column.offset + from as u32);
     notes::read_token(token, inferred, spot, parts, tally, out)
 }
@@ -119,7 +152,7 @@ fn read_stretch(
     first: usize,
     out: &mut [u8],
 ) -> Stretch
-    requires { ⌜ Ready (now row) (now parts) tally × ((length (now line) < 2 ^ 27) × (first ≤ length (now row))) ⌝ }
+    requires { ⌜ Ready (now row) (now parts) tally × ((length (now line) < 2 ^ 27) × ((first ≤ length (now row)) × (pieces 9 begin (now line) ≡ drop first (tokensOf (now line))))) ⌝ }
     ensures { λ r. ⌜ ((offset : ℕ) → Stretched (now (line .entry)) (now (row .entry)) (now (parts .entry)) (now (out .entry)) tally number offset begin first (now (parts .exit)) (now (out .exit)) r) ⌝ }
 {
     let mut from = begin;
@@ -203,6 +236,7 @@ pub fn read_data(
 {
     let mut s = read_stretch(line, row, parts, tally, number, 0, 0, out);
     let mut t = with_stretch(tally, s);
+    let mut asked = Asked::Unasked;
     while s.index < row.len() {
         let i = s.index;
         let from = s.from;
@@ -217,7 +251,8 @@ pub fn read_data(
             line: number,
             offset,
         };
-        let step = read_column(line, row, column, parts, t, out);
+        asked = ask(line, row, asked, from, end);
+        let step = read_column(line, row, column, asked, parts, t, out);
         match step {
             Step::Refused {
                 number: _,

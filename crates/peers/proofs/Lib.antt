@@ -2,5 +2,6 @@
 pub mod OfferLaws
 pub mod AgreeLaws
 pub mod TallyLaws
+pub mod SummaryLaws
 pub mod MeetLaws
 pub mod Examples

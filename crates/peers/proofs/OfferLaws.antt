@@ -4,16 +4,18 @@ use Prim.Native.Nat.{ℕ, zero, suc, _+_, _≤_, _<_}
 use native.Mathlib.Numerals.{add-one}
 use native.Mathlib.Omega.{arith}
 use mathlib.Core.List.{List, [], _∷_}
-use mathlib.Core.Bool.{Bool, true, false, cond, _&&_}
+use mathlib.Core.Bool.{Bool, true, false, cond, _&&_, false≢true}
 use lib.Dec.{eqb}
 use lib.ListN.{length, take, drop, getD, drop-of-length-le}
 use lib.Seq.{drop-cons}
 use borrow.Author.Tests.{eq-eqb, ne-eqb}
+use Rattle.slices.proofs.TestLaws.{both}
 use Rattle.duration.specs.Duration.{durationOf}
 use Rattle.duration.specs.declared.Value.{Value}
 use Rattle.duration.specs.declared.Value.the-variants.{Missing, Plain, Tuplet}
 use Rattle.notation.specs.Bytes.{contains, trimStart}
 use Rattle.items.specs.Items.{isDigit, isLetter, joins, itemOf, more, first, nextItem}
+use Rattle.items.proofs.NextLaws.{letter-no-digit}
 use Rattle.items.specs.declared.Item.{Item}
 use Rattle.items.specs.declared.Item.the-variants.{Digits, Letters, Blank, Mark}
 use Rattle.items.specs.declared.Next.{Next}
@@ -157,14 +159,17 @@ offer-value t {b} {end} {r} {v} p q d e s =
     s ∙ ap (ifSome v) (sym (d .long)) ∙ sym (value-long v (leading t)) ∙ ap (λ (w : Value). length (ifValue w (leading t))) (sym (d .value))
     ∙ sym (rw (sym p ∙ q, ne-eqb (length (leading t)) (length t) (λ z. e (sym (d .long) ∙ z))))
 
-pub offer-none : (t : List ℕ) → leading t ≡ [] → 0 ≡ length (offerOf t)
+offer-nothing : (t : List ℕ) → leading t ≡ [] → offerOf t ≡ []
 unfolding offerOf
-offer-none t e = rw (e, value-none (durationOf [])) (go (forbids t) (eqb 0 (length t)))
+offer-nothing t e = rw (e, value-none (durationOf [])) (go (forbids t) (eqb 0 (length t)))
   where
-    go : (a b : Bool) → 0 ≡ length {A = ℕ} (cond a [] (cond b [] []))
+    go : (a b : Bool) → _≡_ {A = List ℕ} (cond a [] (cond b [] [])) []
     go true b = refl
     go false true = refl
     go false false = refl
+
+pub offer-none : (t : List ℕ) → leading t ≡ [] → 0 ≡ length (offerOf t)
+offer-none t e = sym (ap length (offer-nothing t e))
 
 -- a token without a byte, or with another byte in front, offers none
 pub offer-empty : (t : List ℕ) → length t ≡ 0 → 0 ≡ length (offerOf t)
@@ -176,6 +181,14 @@ pub offer-other : (t : List ℕ) {b : Bool} → (length t ≡ 0 → ⊥) → b �
 unfolding leading
 offer-other [] h p q = absurd (h refl)
 offer-other (x ∷ xs) h p q = offer-none (x ∷ xs) (rw (sym p ∙ q))
+
+-- a bare token begins with a letter
+pub bare-offers : (t : List ℕ) → isBare t ≡ true → offerOf t ≡ []
+unfolding isBare leading
+bare-offers [] b = absurd (false≢true b)
+bare-offers (x ∷ xs) b =
+    let l : isLetter x ≡ true = both _ _ b .0 in
+    offer-nothing (x ∷ xs) (rw (letter-no-digit x l))
 
 pub offer-prefix : (t : List ℕ) → take (length (offerOf t)) t ≡ offerOf t
 unfolding offerOf

@@ -7,7 +7,6 @@ use lib.Dec.{eqb, leb}
 use lib.ListN.{length}
 use Rattle.slices.specs.Compare.{sameBytes}
 use Rattle.slices.specs.Split.{pieceAt}
-use Rattle.lines.specs.Tokens.{tokensOf}
 use Rattle.duration.specs.Duration.{durationOf}
 use Rattle.duration.specs.declared.Value.{Value}
 use Rattle.duration.specs.declared.Value.the-variants.{Missing, Plain, Tuplet}
@@ -18,6 +17,7 @@ use Rattle.peers.specs.declared.Peer.{Peer}
 use Rattle.peers.specs.declared.Peer.the-variants.{Nothing, At}
 use Rattle.peers.specs.declared.Found.{Found}
 use Rattle.peers.specs.declared.Found.the-variants.{Empty, One, More, Broken}
+use Rattle.peers.specs.declared.Summary.{Summary}
 
 -- ---- `plain_pitch_without_duration`: one run of a letter, followed by nothing but signs
 unfoldable pub onlySigns : List ℕ → Bool
@@ -74,10 +74,6 @@ unfoldable pub kernCells : List ℕ → List Bool
 kernCells [] = []
 kernCells (c ∷ cs) = leb 8 c ∷ kernCells cs
 
--- the digits that the neighbours of a column offer, none where they don't
-abbrev pub peerDigits : List ℕ → List ℕ → ℕ → List ℕ
-peerDigits line row column = peerReciprocal (tokensOf line) (kernCells row) column
-
 -- the piece of the line that an answer names
 abbrev pub digitsAt : List ℕ → Peer → List ℕ
 digitsAt line Nothing = []
@@ -124,6 +120,51 @@ settled none = []
 settled (one ds) = []
 settled (more ds) = ds
 settled broken = []
+
+abbrev pub isBroken : Found → Bool
+isBroken Empty = false
+isBroken (One at len) = false
+isBroken (More at len) = false
+isBroken Broken = true
+
+-- ---- request E2: "keep from one pass over the columns a summary whose size doesn't grow with them"
+-- whether a kern column that offers nothing was met, and what the others offer; a second one that offers nothing breaks their agreement
+pub record Agreement : Type 0 where
+  pub lacking : Bool
+  pub tally : Tally
+
+-- the first column that offers nothing is left out: it may be the bare one, whose neighbours the others are
+abbrev pub firstLacking : List ℕ → Tally → List ℕ → Agreement
+firstLacking [] y t = record { lacking = true; tally = y }
+firstLacking (d ∷ ds) y t = record { lacking = false; tally = met y t }
+
+-- one kern column more
+abbrev pub columnMet : Bool → Tally → List ℕ → Agreement
+columnMet true y t = record { lacking = true; tally = met y t }
+columnMet false y t = firstLacking (offerOf t) y t
+
+abbrev pub summed : Agreement → List (List ℕ) → Agreement
+summed a [] = a
+summed a (t ∷ ts) = summed (columnMet (a .lacking) (a .tally) t) ts
+
+-- the tokens of the kern columns
+unfoldable pub kernTokens : List (List ℕ) → List Bool → List (List ℕ)
+kernTokens [] ks = []
+kernTokens (t ∷ ts) [] = []
+kernTokens (t ∷ ts) (k ∷ ks) = cond k (t ∷ kernTokens ts ks) (kernTokens ts ks)
+
+abbrev pub nothingMet : Agreement
+nothingMet = record { lacking = false; tally = none }
+
+abbrev pub summaryOf : List (List ℕ) → List Bool → Agreement
+summaryOf ts kern = summed nothingMet (kernTokens ts kern)
+
+-- the digits that the summary of a record gives each bare column
+abbrev pub agreedDigits : List (List ℕ) → List Bool → List ℕ
+agreedDigits ts kern = settled (summaryOf ts kern .tally)
+
+abbrev pub summaryAt : List ℕ → Summary → Agreement
+summaryAt line s = record { lacking = s .lacking; tally = tallyAt line (s .found) }
 
 abbrev pub ifSome : Value → ℕ → ℕ
 ifSome Missing n = 0

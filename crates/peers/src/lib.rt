@@ -2,14 +2,15 @@
 use duration::Value;
 use items::Item;
 ghost use mathlib.Core.Path.{_≡_};
-ghost use mathlib.Core.Bool.{true, _&&_, _||_, not, cond};
+ghost use mathlib.Core.Bool.{false, _||_, cond};
 ghost use Prim.Native.Nat.{_+_, _≤_};
 ghost use lib.Dec.{eqb, leb};
 ghost use lib.ListN.{length};
 ghost use Rattle.slices.specs.Compare.{sameBytes};
 ghost use Rattle.slices.specs.Split.{pieceAt};
 ghost use Rattle.duration.specs.Duration.{durationOf};
-ghost use Rattle.peers.specs.Peers.{onlySigns, isBare, forbids, offerOf, peerDigits, digitsAt, met, tallyAt, settled, ifSome, Offered, Sound};
+ghost use Rattle.lines.specs.Tokens.{tokensOf};
+ghost use Rattle.peers.specs.Peers.{onlySigns, isBare, forbids, offerOf, digitsAt, met, tallyAt, settled, isBroken, ifSome, Offered, Sound, kernCells, columnMet, summaryAt, agreedDigits};
 
 // The digits that the neighbours offer: nothing, or a piece of the line.
 pub enum Peer {
@@ -23,6 +24,12 @@ pub enum Found {
     One { at: usize, len: usize },
     More { at: usize, len: usize },
     Broken,
+}
+
+// What one pass over the columns keeps: whether a kern column that offers nothing was met, and what the others offer.
+pub struct Summary {
+    lacking: bool,
+    found: Found,
 }
 
 // Whether all bytes are signs.
@@ -196,26 +203,60 @@ fn meet(line: &[u8], found: Found, from: usize, len: usize) -> Found
     }
 }
 
-// One column more: only a kern column other than `column` counts.
-fn pass(
-    line: &[u8],
-    found: Found,
-    from: usize,
-    len: usize,
-    cell: u16,
-    i: usize,
-    column: usize,
-) -> Found
+// Whether neighbours that don't agree were met.
+fn is_broken(found: Found) -> bool
+    ensures { λ r. ⌜ r ≡ isBroken found ⌝ }
+{
+    match found {
+        Found::Empty => false,
+        Found::One { at: _, len: _ } => false,
+        Found::More { at: _, len: _ } => false,
+        Found::Broken => true,
+    }
+}
+
+// One kern column more, while none was met that offers nothing.
+fn first_lacking(line: &[u8], found: Found, from: usize, len: usize) -> Summary
     requires { ⌜ Sound (now line) found × (from + len ≤ length (now line)) ⌝ }
-    ensures { λ r. ⌜ (tallyAt (now (line .entry)) r ≡ cond (leb 8 cell && not (eqb i column)) (met (tallyAt (now (line .entry)) found) (pieceAt (now (line .entry)) from len)) (tallyAt (now (line .entry)) found)) × Sound (now (line .entry)) r ⌝ }
+    ensures { λ r. ⌜ (summaryAt (now (line .entry)) r ≡ columnMet false (tallyAt (now (line .entry)) found) (pieceAt (now (line .entry)) from len)) × Sound (now (line .entry)) (r .found) ⌝ }
+{
+    let next = meet(line, found, from, len);
+    if is_broken(next) {
+        let token = &line[from..from + len];
+        if offer(token) == 0 {
+            return Summary {
+                lacking: true,
+                found,
+            };
+        }
+        return Summary {
+            lacking: false,
+            found: next,
+        };
+    }
+    Summary {
+        lacking: false,
+        found: next,
+    }
+}
+
+// One column more: only kern columns count.
+fn pass(line: &[u8], summary: Summary, from: usize, len: usize, cell: u16) -> Summary
+    requires { ⌜ Sound (now line) (summary .found) × (from + len ≤ length (now line)) ⌝ }
+    ensures { λ r. ⌜ (summaryAt (now (line .entry)) r ≡ cond (leb 8 cell) (columnMet (summary .lacking) (tallyAt (now (line .entry)) (summary .found)) (pieceAt (now (line .entry)) from len)) (summaryAt (now (line .entry)) summary)) × Sound (now (line .entry)) (r .found) ⌝ }
 {
     if cell < 8 {
-        return found;
+        return summary;
     }
-    if i == column {
-        return found;
+    let found = summary.found;
+    if summary.lacking {
+        let next = meet(line, found, from, len);
+        return Summary {
+            lacking: true,
+            found: next,
+        };
     }
-    meet(line, found, from, len)
+    first_lacking(line, found, from, len)
 }
 
 // The answer of what was met.
@@ -230,26 +271,18 @@ fn settle(line: &[u8], found: Found) -> Peer
     }
 }
 
-// Whether neighbours that don't agree were met.
-fn is_broken(found: Found) -> bool
-    ensures { λ r. ⌜ (r ≡ true → found ≡ Found.Broken) ⌝ }
+// The digits that a record gives each of its bare columns, by one pass over its columns. A cell of the row is below 8 for a spine outside kern.
+pub fn agreed_reciprocal(line: &[u8], row: &[u16]) -> Peer
+    ensures { λ r. ⌜ digitsAt (now (line .entry)) r ≡ agreedDigits (tokensOf (now (line .entry))) (kernCells (now (row .entry))) ⌝ }
 {
-    match found {
-        Found::Empty => false,
-        Found::One { at: _, len: _ } => false,
-        Found::More { at: _, len: _ } => false,
-        Found::Broken => true,
-    }
-}
-
-// The digits that the neighbours of a column offer. A cell of the row is below 8 for a spine outside kern.
-pub fn peer_reciprocal(line: &[u8], row: &[u16], column: usize) -> Peer
-    ensures { λ r. ⌜ digitsAt (now (line .entry)) r ≡ peerDigits (now (line .entry)) (now (row .entry)) column ⌝ }
-{
-    let mut found = Found::Empty;
+    let mut summary = Summary {
+        lacking: false,
+        found: Found::Empty,
+    };
     let mut from = 0;
     let mut i = 0;
     while i < row.len() {
+        let found = summary.found;
         if line.len() < from {
             return settle(line, found);
         }
@@ -257,18 +290,19 @@ pub fn peer_reciprocal(line: &[u8], row: &[u16], column: usize) -> Peer
             return Peer::Nothing;
         }
         let end = lines::token_end(line, from);
-        found = pass(line, found, from, end - from, row[i], i, column);
+        summary = pass(line, summary, from, end - from, row[i]);
         from = end + 1;
         i += 1;
     }
+    let found = summary.found;
     settle(line, found)
 }
 
 // The value of those digits, Missing where there are none.
-pub fn peer_duration(line: &[u8], row: &[u16], column: usize) -> Value
-    ensures { λ r. ⌜ r ≡ durationOf (peerDigits (now (line .entry)) (now (row .entry)) column) ⌝ }
+pub fn agreed_duration(line: &[u8], row: &[u16]) -> Value
+    ensures { λ r. ⌜ r ≡ durationOf (agreedDigits (tokensOf (now (line .entry))) (kernCells (now (row .entry)))) ⌝ }
 {
-    match peer_reciprocal(line, row, column) {
+    match agreed_reciprocal(line, row) {
         Peer::Nothing => Value::Missing,
         Peer::At { at, len } => {
             let digits = slices::piece(line, at, len);

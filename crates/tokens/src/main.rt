@@ -95,15 +95,11 @@ fn print_signifiers(count: usize, token: &[u8]) {
     print(b" ");
 }
 
-// The length that a bare token in the last column takes from its peers, of records of up to 16 columns.
+// The length that a bare token takes from its record, of up to 16 columns.
 fn inferred_for(line: &[u8], token: &[u8]) -> Value {
     let row = [8u16; 16];
-    let count = lines::token_count(line);
-    if count == 0 {
-        return Value::Missing;
-    }
     if peers::is_bare(token) {
-        return peers::peer_duration(line, &row[..], count - 1);
+        return peers::agreed_duration(line, &row[..]);
     }
     Value::Missing
 }

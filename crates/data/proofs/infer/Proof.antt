@@ -1,5 +1,5 @@
--- The first tokens, as many as there are spines, have the same peers as all.
-use Rattle.data.proofs.PeerLaws.{infers, infers-none}
+-- A bare token gets what the record gave.
+use Rattle.data.proofs.PeerLaws.{infers-unasked, infers-given, infers-not}
 use borrow.Author.Needs.{needs}
 use Rattle.data.proofs.infer.Statement.{statement}
 use Rattle.data.proofs.infer.Tie as tie
@@ -7,14 +7,21 @@ use Rattle.data.proofs.infer.Tie as tie
 is-bare-requires : tie.Need-is-bare-requires
 is-bare-requires c κs = search needs
 
-peer-duration-requires : tie.Need-peer-duration-requires
-peer-duration-requires c κs = search needs
+enum-told : tie.Need-enum-told
+enum-told c = search needs
 
 returns : tie.Need-returns
-returns c = infers (c .before .before .before .before .before .before .args .line .now) (c .before .before .before .before .before .before .args .row .now) (c .before .before .before .before .before .before .args .token .now) (c .before .before .before .before .before .before .args .i) (c .before .before .is-bare .ensures) (c .before .if1 .taken) (c .peer-duration .ensures)
+returns c = infers-unasked (c .before .before .before .before .before .args .asked) (c .before .before .before .is-bare .ensures) (c .before .before .if1 .taken) (c .enum-told .given .1)
+
+enum-known-asked : tie.Need-enum-known-asked
+enum-known-asked c = search needs
 
 returns-2 : tie.Need-returns-2
-returns-2 c = infers-none (c .before .before .before .before .before .args .line .now) (c .before .before .before .before .before .args .row .now) (c .before .before .before .before .before .args .token .now) (c .before .before .before .before .before .args .i) (c .before .is-bare .ensures) (c .if1 .left)
+returns-2 c = infers-given (c .before .before .before .before .before .before .args .asked) (c .before .before .before .before .is-bare .ensures) (c .before .before .before .if1 .taken) (c .before .asked .given .1)
+
+returns-3 : tie.Need-returns-3
+returns-3 c = infers-not (c .before .before .before .args .asked) (c .before .is-bare .ensures) (c .if1 .left)
 
 pub infer-spec : {M : Type 1} → statement M
-infer-spec = tie.close (tie.spec is-bare-requires peer-duration-requires returns returns-2)
+infer-spec =
+    tie.close (tie.spec is-bare-requires enum-told returns enum-known-asked returns-2 returns-3)

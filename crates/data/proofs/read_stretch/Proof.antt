@@ -21,7 +21,7 @@ abbrev μ-loop : tie.MeasureT-loop
     length row - i
 
 loop-holds : tie.Need-loop-holds Inv-loop μ-loop
-loop-holds c = (omega arith, λ offset. stretch-first (c .before .before .before .before .args .line .now) (c .before .before .before .before .args .row .now) (c .before .before .before .before .args .parts .now) (c .before .before .before .before .args .out .now) (c .before .before .before .before .args .tally) (c .before .before .before .before .args .number) offset (c .before .before .before .before .args .begin) (c .before .before .before .before .args .first) (c .before .before .before .before .pre .1 .1))
+loop-holds c = (omega arith, λ offset. stretch-first (c .before .before .before .before .args .line .now) (c .before .before .before .before .args .row .now) (c .before .before .before .before .args .parts .now) (c .before .before .before .before .args .out .now) (c .before .before .before .before .args .tally) (c .before .before .before .before .args .number) offset (c .before .before .before .before .args .begin) (c .before .before .before .before .args .first) (c .before .before .before .before .pre .1 .1 .0) (c .before .before .before .before .pre .1 .1 .1))
 
 mul-cell : tie.Need-mul-cell Inv-loop μ-loop
 mul-cell c = search needs

@@ -4,11 +4,11 @@ use Rattle.duration.specs.Duration.{durationOf}
 use Rattle.peers.specs.Peers.{digitsAt}
 use Rattle.peers.proofs.MeetLaws.{no-value}
 use borrow.Author.Needs.{needs}
-use Rattle.peers.proofs.peer_duration.Statement.{statement}
-use Rattle.peers.proofs.peer_duration.Tie as tie
+use Rattle.peers.proofs.agreed_duration.Statement.{statement}
+use Rattle.peers.proofs.agreed_duration.Tie as tie
 
-peer-reciprocal-requires : tie.Need-peer-reciprocal-requires
-peer-reciprocal-requires c κs = search needs
+agreed-reciprocal-requires : tie.Need-agreed-reciprocal-requires
+agreed-reciprocal-requires c κs = search needs
 
 enum-told : tie.Need-enum-told
 enum-told c = search needs
@@ -23,16 +23,16 @@ kern-duration-requires : tie.Need-kern-duration-requires
 kern-duration-requires c κs = search needs
 
 returns : tie.Need-returns
-returns c = sym no-value ∙ ap durationOf (sym (ap (digitsAt _) (c .enum-told .given .1)) ∙ c .before .before .peer-reciprocal .ensures)
+returns c = sym no-value ∙ ap durationOf (sym (ap (digitsAt _) (c .enum-told .given .1)) ∙ c .before .before .agreed-reciprocal .ensures)
 
 returns-2 : tie.Need-returns-2
-returns-2 c = c .kern-duration .ensures ∙ ap durationOf (c .before .piece .ensures ∙ sym (ap (digitsAt _) (c .before .before .before .at .given .1)) ∙ c .before .before .before .before .before .peer-reciprocal .ensures)
+returns-2 c = c .kern-duration .ensures ∙ ap durationOf (c .before .piece .ensures ∙ sym (ap (digitsAt _) (c .before .before .before .at .given .1)) ∙ c .before .before .before .before .before .agreed-reciprocal .ensures)
 
-pub peer-duration-spec : {M : Type 1} → statement M
-peer-duration-spec =
+pub agreed-duration-spec : {M : Type 1} → statement M
+agreed-duration-spec =
     tie.close
     (tie.spec
-    peer-reciprocal-requires
+    agreed-reciprocal-requires
     enum-told
     enum-known-at
     piece-requires

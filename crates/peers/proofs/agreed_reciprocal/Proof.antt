@@ -1,18 +1,18 @@
--- The neighbours met, carried on over the columns left, give what all give from the start.
+-- The summary so far, carried on over the columns left, gives what all give from the start.
 use Prim.Native.Nat.{_-_}
 use native.Mathlib.Omega.{arith}
 use lib.ListN.{length}
 use Rattle.peers.specs.Peers.{Sound}
 use Rattle.peers.proofs.MeetLaws.{Passing, pass-first, pass-turn, line-past, row-past, broken-stop}
-use Rattle.peers.proofs.peer_reciprocal.Statement.{statement}
-use Rattle.peers.proofs.peer_reciprocal.Tie as tie
 use Rattle.lines.proofs.PieceLaws.{end-low}
+use Rattle.peers.proofs.agreed_reciprocal.Statement.{statement}
+use Rattle.peers.proofs.agreed_reciprocal.Tie as tie
 
 abbrev Inv-loop : tie.InvT-loop
-Inv-loop line row column found₀ from₀ i₀ found from i = Passing line row column from i found × Sound line found
+Inv-loop line row summary₀ from₀ i₀ summary from i = Passing line row from i summary × Sound line (summary .found)
 
 abbrev μ-loop : tie.MeasureT-loop
-μ-loop line row column found₀ from₀ i₀ found from i = length row - i
+μ-loop line row summary₀ from₀ i₀ summary from i = length row - i
 
 loop-holds : tie.Need-loop-holds Inv-loop μ-loop
 loop-holds c = (pass-first, tt)
@@ -27,7 +27,7 @@ is-broken-requires : tie.Need-is-broken-requires Inv-loop μ-loop
 is-broken-requires c κs = tt
 
 returns-2 : tie.Need-returns-2 Inv-loop μ-loop
-returns-2 c = broken-stop (c .before .before .before .before .loop .inv .0) (c .before .is-broken .ensures (c .if2 .taken))
+returns-2 c = broken-stop (c .before .before .before .before .loop .inv .0) (c .before .is-broken .ensures) (c .if2 .taken)
 
 token-end-requires : tie.Need-token-end-requires Inv-loop μ-loop
 token-end-requires c κs = tt
@@ -62,8 +62,8 @@ settle-requires-2 c κs = tt
 returns-3 : tie.Need-returns-3 Inv-loop μ-loop
 returns-3 c = row-past (c .before .before .loop .inv .0) (c .before .loop-test .left) (c .settle2 .ensures)
 
-pub peer-reciprocal-spec : {M : Type 1} → statement M
-peer-reciprocal-spec =
+pub agreed-reciprocal-spec : {M : Type 1} → statement M
+agreed-reciprocal-spec =
     tie.close
     (tie.spec
     Inv-loop
