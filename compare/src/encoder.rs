@@ -1,4 +1,4 @@
-//! A text's sheet, written from document 01 and from nothing else here: what the source's report does not hold (lines, columns, spans, the order of
+//! A text's sheet, written from document 01 and request E7 and from nothing else here: what the source's report does not hold (lines, columns, spans, the order of
 //! records) comes from this. `check.rs` holds what it does hold to the report.
 
 /// Number, line and figure.
@@ -162,10 +162,14 @@ fn interpretation(token: &[u8], noted: bool) -> Said {
         let Some(signs) = signature.strip_suffix(b"]") else {
             return Said::Notice(10);
         };
-        let count = |sign: u8| signs.iter().filter(|b| **b == sign).count();
-        let (sharps, flats) = (count(b'#'), count(b'-'));
-        let standard = signs.len() == 2 * (sharps + flats) && (sharps == 0 || flats == 0) && sharps + flats <= 7;
-        return if standard { Said::Key((sharps as u8).wrapping_sub(flats as u8)) } else { Said::Notice(11) };
+        // request E7: the first steps of the order of sharps or of flats
+        let steps = signs.len() / 2;
+        let first = |order: &[u8], sign: u8| -> Vec<u8> { order.iter().take(steps).flat_map(|step| [*step, sign]).collect() };
+        return match signs {
+            _ if signs == first(b"fcgdaeb", b'#') => Said::Key(steps as u8),
+            _ if signs == first(b"beadgcf", b'-') => Said::Key((steps as u8).wrapping_neg()),
+            _ => Said::Notice(11),
+        };
     }
     if meter {
         let text = &body[1..];

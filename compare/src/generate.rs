@@ -358,7 +358,8 @@ fn interpretations(seed: &mut Seed) -> Vec<u8> {
             .map(|_| match seed.below(16) {
                 0 => format!("*clef{}", seed.pick(&["G2", "Gv2", "G^2", "F4", "Fv4", "C1", "C2", "C3", "C4", "C5", "X", "", "G", "G22", "g2", "F2"])),
                 1 => format!("*k[{}", ["f#", "c#", "b-", "e-", "#", "-", "fn", "f##", "]", " "].iter().map(|s| s.repeat(seed.below(5) / 3 * (1 + seed.below(3)))).collect::<String>()) + seed.pick(&["]", "]", "]", "", "]]"]),
-                2 => format!("*k[{}]", seed.pick(&["f#", "b-", "#", "-", "##", "--", "f#c-"]).repeat(seed.below(10))),
+                // standard ones, and some that are refused on both sides: a step without a sign, an eighth step, both signs
+                2 => format!("*k[{}]", &seed.pick(&["f#c#g#d#a#e#b#f#", "b-e-a-d-g-c-f-b-", "f#c#g#d-a#e#b#f#", "################"])[..seed.below(17)]),
                 3 => format!("*M{}/{}", digits(seed, 4), digits(seed, 4)),
                 4 => format!("*M{}{}/{}{}", seed.pick(&["", "0", "00", "+"]), seed.pick(&["1", "2", "3", "4", "12", "255", "256", "0"]), seed.pick(&["", "0", "+", "++", "-"]), seed.pick(&["1", "2", "4", "8", "128", "256", "6", "3/4", ""])),
                 5 => format!("*MM{}{}{}", digits(seed, 6), seed.pick(&["", ".", "."]), digits(seed, 9)),

@@ -2,7 +2,7 @@
 //! through `parse_kern_with_report`; ours are asked through the program `leaves`, a request to a line.
 use crate::source::*;
 
-/// A request to the program, without its line feed, and the answer that the source gives.
+/// A request to the program, without its line feed, and the answer that the source gives, or a request of document 02 where it parts from the source.
 pub struct Case {
     pub request: Vec<u8>,
     pub answer: Vec<u8>,
@@ -193,8 +193,26 @@ fn all_references() -> Vec<Case> {
     cases
 }
 
-fn all_interpretations() -> Vec<Case> {
-    let mut tokens: Vec<String> = Vec::new();
+/// Signatures around the standard ones: each with one byte more, less or other, or in upper case; and steps in any order.
+fn signatures() -> Vec<String> {
+    let mut all = strings(&["f#", "c#", "g#", "F#", "b-", "e-", "a-", "]"], 0, 4);
+    for standard in standard_signatures() {
+        for at in 0..=standard.len() {
+            let (before, behind) = standard.split_at(at);
+            let rest = behind.get(1..).unwrap_or("");
+            all.push(format!("{before}{rest}"));
+            for byte in "abcdefgB#-n ".chars() {
+                all.extend([format!("{before}{byte}{rest}"), format!("{before}{byte}{behind}")]);
+            }
+        }
+        all.extend([standard.to_uppercase(), standard]);
+    }
+    all
+}
+
+/// Interpretations with the source's answers; behind them the signatures that the source takes and request E7 doesn't, with its notice 11.
+fn all_interpretations() -> (Vec<Case>, Vec<Case>) {
+    let mut tokens: Vec<String> = signatures().iter().map(|s| format!("*k[{s}]")).collect();
     let mut add = |prefix: &str, alphabet: &[&str], high: usize| {
         tokens.extend(strings(alphabet, 0, high).iter().map(|s| format!("{prefix}{s}")));
     };
@@ -225,7 +243,9 @@ fn all_interpretations() -> Vec<Case> {
     tokens.dedup();
     let path = ["*^", "*v", "*x", "*-", "*+"];
     tokens.retain(|t| !path.contains(&t.as_str()) && compared(t) && t != "*I'");
-    tokens.iter().flat_map(|t| [interpretation(t, false), interpretation(t, true)]).collect()
+    let (apart, held): (Vec<String>, Vec<String>) = tokens.into_iter().partition(|t| set_apart(t));
+    let held = held.iter().flat_map(|t| [interpretation(t, false), interpretation(t, true)]).collect();
+    (held, apart.iter().flat_map(|t| [case(b'I', t.as_bytes(), "9 11".to_string()), interpretation(t, true)]).collect())
 }
 
 fn all_pitches() -> Vec<Case> {
@@ -290,6 +310,7 @@ fn all_utf8() -> Vec<Case> {
 
 /// Every case, leaf after leaf, with the leaf's name.
 pub fn all() -> Vec<(&'static str, Vec<Case>)> {
+    let (held, apart) = all_interpretations();
     let digits: Vec<&str> = vec!["0", "1", "2", "3", "4", "5", "6", "7", "8", "9"];
     vec![
         ("UTF-8", all_utf8()),
@@ -299,7 +320,8 @@ pub fn all() -> Vec<(&'static str, Vec<Case>)> {
         ("alterations", all_alterations()),
         ("beams", all_beams()),
         ("barlines", strings(&["=", "|", ":", "!", "-"], 0, 5).iter().map(|s| barline(s)).collect()),
-        ("interpretations", all_interpretations()),
+        ("interpretations", held),
+        ("signatures by request E7", apart),
         ("notices", notices()),
         ("names", names()),
         ("holes", crate::gaps::cases()),

@@ -83,14 +83,15 @@ fn compare(kind: &str, program: &str) -> ExitCode {
 }
 
 /// Requests that the replayed list has besides those that are spread over all: document 01's lines that are not marked P, and both edges of rules.
-const PICKED: [&str; 47] = [
+const PICKED: [&str; 58] = [
     "I*M4/+4", "I*M0/4", "I*M255/128", "I*M256/4", "I*M4/3", "I*M004/08", "I*M4", "I*M+4/4", "I*MM119.5", "I*MM119.49", "I*MM65534.5", "I*MM65535.1", "I*MM0.9",
     "I*clefG2", "I*clefGv2", "I*clefC4", "I*clefX", "J*clefG2", "I*k[]", "I*k[f#f#]", "I*k[b-b-b-]", "I*k[##]", "I*k[", "I*met(c)", "I*met(c|)", "I*met(o)",
+    "I*k[f#]", "I*k[f#c#g#d#a#e#b#]", "I*k[b-]", "I*k[b-e-a-d-g-c-f-]", "I*k[f#c#g#d#a#e#b#b]", "I*k[g#]", "I*k[F#]", "I*k[f#g#]", "I*k[c#f#]", "I*k[e-b-]", "J*k[g#]",
     "I*G:", "I*e:", "I*abcd:", "I*I\"a", "I*I'a", "I*", "D255", "D256", "D0", "D00", "D000", "D12", "D0008", "D00008",
     "H0 0 60000 4096", "H480 480 49999 4096", "H480 480 50000 4096", "H15360 480 49999 4096", "H1 0 50000 4096", "H320 480 0 4096", "H96 480 0 4096",
 ];
 
-/// A sample of the cases: the requests into one file, the source's answers into another.
+/// A sample of the cases: the requests into one file, the answers into another.
 fn sample(kind: &str, requests: &str, answers: &str) -> ExitCode {
     let (mut input, mut output) = (Vec::new(), Vec::new());
     let many = if kind == "leaves" { 90 } else { 600 };

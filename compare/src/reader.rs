@@ -112,9 +112,10 @@ impl Bench {
     }
 }
 
-/// Document 01 compares no `MM` texts but digits with at most one point and at most nine digits behind it.
+/// Document 01 compares no `MM` texts but digits with at most one point and at most nine digits behind it, request E7 no signatures that the
+/// source takes and that are not standard.
 fn comparable(text: &[u8]) -> bool {
-    text.windows(3).enumerate().filter(|(_, w)| *w == b"*MM").all(|(i, _)| {
+    !check::apart(text) && text.windows(3).enumerate().filter(|(_, w)| *w == b"*MM").all(|(i, _)| {
         let token = text[i + 3..].split(|b| matches!(b, b'\t' | b'\n' | b'\r')).next().unwrap();
         let point = token.iter().position(|b| *b == b'.').unwrap_or(token.len());
         token.len() <= point + 10 && token.iter().all(|b| b.is_ascii_digit() || *b == b'.')
@@ -149,7 +150,7 @@ impl Run {
 
     fn said(&self, name: &str) {
         let answers: Vec<String> = self.bench.numbers.iter().enumerate().filter(|(_, n)| **n > 0).map(|(i, n)| format!("{i}: {n}")).collect();
-        println!("{name}: {} texts, {} calls (by number {}), {} not held to the source for their MM, {} different", self.texts, self.bench.calls, answers.join(", "), self.bench.unheld, self.different);
+        println!("{name}: {} texts, {} calls (by number {}), {} not held to the source for their MM or signatures, {} different", self.texts, self.bench.calls, answers.join(", "), self.bench.unheld, self.different);
     }
 }
 

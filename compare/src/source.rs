@@ -1,5 +1,5 @@
 //! The published source's answers, in document 01's numbers.
-use acorde_core::{Articulation, Barline, BeamState, Clef, Duration, KeySignature, Measure, Note, TimeSymbol};
+use acorde_core::{Articulation, Barline, BeamState, Clef, Duration, KeySignature, Measure, Note, Step, TimeSymbol};
 pub use acorde_io::{ImportReport, parse_kern_with_report};
 
 pub fn value_number(d: &Duration) -> u8 {
@@ -76,6 +76,31 @@ pub fn articulation_number(a: &Articulation) -> u8 {
 
 pub fn mode_number(k: &KeySignature) -> u8 {
     u8::from(k.mode == "minor")
+}
+
+/// Request E7's fifteen standard signatures, as they stand between the brackets: the steps in the order in which the published
+/// `KeySignature` alters one more with each fifth, in lower case, each with its sign.
+pub fn standard_signatures() -> Vec<String> {
+    let alter = |fifths: i8, step: char| KeySignature { fifths, mode: "major".to_string() }.alter_for_step(&Step::from_char(step).unwrap());
+    let mut all = vec![String::new()];
+    for (sign, one) in [('#', 1), ('-', -1)] {
+        let mut signature = String::new();
+        for n in 0..7 {
+            let step = "CDEFGAB".chars().find(|step| alter(one * n, *step) != alter(one * (n + 1), *step)).unwrap();
+            signature.extend([step.to_ascii_lowercase(), sign]);
+            all.push(signature.clone());
+        }
+    }
+    all
+}
+
+/// Whether request E7 parts from the source over a token: a signature that the source takes and that is not standard.
+pub fn set_apart(token: &str) -> bool {
+    let Some(signature) = token.strip_prefix("*k[").and_then(|s| s.strip_suffix(']')) else {
+        return false;
+    };
+    let taken = || parse_kern_with_report(&format!("**kern\n{token}\n4c\n")).is_ok_and(|report| report.diagnostics.is_empty());
+    !standard_signatures().iter().any(|s| s == signature) && taken()
 }
 
 /// The numbers of document 01 for the notices of tandem interpretations, by their wording.

@@ -1,6 +1,6 @@
 //! The replayed list of texts with their sheets or refusals. What the source's report holds of each text is the source's (the list is
-//! only written where the encoder's sheet says the same); lines, columns, spans and the order of records are the encoder's, which was
-//! written from document 01.
+//! only written where the encoder's sheet says the same, or request E7 sets a signature apart); lines, columns, spans and the order of
+//! records are the encoder's, which was written from document 01.
 use crate::check;
 use crate::encoder;
 use crate::generate::{self, Seed};
@@ -39,7 +39,7 @@ pub fn picked() -> Vec<Vec<u8>> {
         "**kern\n4c##########\n4c-\n4cn\n4c#n\n4c 4e- 4g#\n4r 4c\n4c 4r\n",
         // settings
         "**kern\n*clefG2\n*k[b-e-]\n*g:\n*M3/4\n*met(c)\n*MM96.5\n*I\"Violin\n*I'Vl.\n4c\n*clefF4\n*k[]\n*M2/4\n*met(c|)\n*MM60\n=\n*clefQ\n*k[\n*k[f#b-]\n*M3/0\n*met(o)\n*MMx\n*foo\n*MM7.25\n2d\n==\n",
-        "**kern\n*e:\n*k[f#]\n4c\n=\n*G:\n4d\n=\n*k[c#]\n*x\n*a:\n4e\n", "**kern\n*I\"\n*I'\n*I\"\u{e9}t\u{e9} \n4c\n", "**kern\n*MM119.5\n*MM119.4\n4c\n=\n*MM65535\n*MM65535.5\n*MM0.4\n*MM.5\n*MM5.\n*MM.\n4d\n",
+        "**kern\n*e:\n*k[f#]\n4c\n=\n*G:\n4d\n=\n*k[b-]\n*x\n*a:\n4e\n", "**kern\n*k[g#]\n4c\n=\n*k[f#c#]\n*k[c#f#]\n4d\n=\n*k[F#]\n*k[e-b-]\n*k[b-b-]\n*k[b-e-a-d-g-c-f-]\n4e\n=\n*k[f#g#]\n4f\n*k[g#]\n", "**kern\n*I\"\n*I'\n*I\"\u{e9}t\u{e9} \n4c\n", "**kern\n*MM119.5\n*MM119.4\n4c\n=\n*MM65535\n*MM65535.5\n*MM0.4\n*MM.5\n*MM5.\n*MM.\n4d\n",
         // barlines
         "**kern\n=1|:\n4c\n=:|!|:\n4d\n=||\n4e\n=-\n4f\n==\n4g\n=:!\n=!:\n4a\n", "**kern\n=\n=:|\n4c\n=|:\n=\n4d\n", "**text\t**kern\n=:|\t==\nx\t4c\n=||\t=-\n", "**kern\n*-\n=\n",
     ]

@@ -3,6 +3,7 @@ use Prim.Native.Nat.{ℕ}
 use mathlib.Core.Bool.{Bool, true, false, _&&_}
 use mathlib.Core.List.{List, [], _∷_}
 use lib.Dec.{T}
+use Rattle.slices.specs.Ascii.{ascii}
 use Rattle.slices.specs.Compare.{sameBytes}
 use Rattle.interpretation.specs.declared.Interpretation.{Interpretation}
 use Rattle.interpretation.specs.declared.Interpretation.the-variants.{Nothing, Clef, Key, Meter, Symbol, Tempo, Name, ShortName, Mode, Notice}
@@ -45,24 +46,46 @@ table =
     ∷ reads (42 ∷ 99 ∷ 108 ∷ 101 ∷ 102 ∷ 88 ∷ []) false (Clef 11)
     -- `*clefQ`
     ∷ reads (42 ∷ 99 ∷ 108 ∷ 101 ∷ 102 ∷ 81 ∷ []) false (Notice 9)
-    -- `*k[f#c#]`
-    ∷ reads (42 ∷ 107 ∷ 91 ∷ 102 ∷ 35 ∷ 99 ∷ 35 ∷ 93 ∷ []) false (Key 2)
-    -- `*k[]`
-    ∷ reads (42 ∷ 107 ∷ 91 ∷ 93 ∷ []) false (Key 0)
-    -- `*k[##]`
-    ∷ reads (42 ∷ 107 ∷ 91 ∷ 35 ∷ 35 ∷ 93 ∷ []) false (Notice 11)
-    -- `*k[f#]`
-    ∷ reads (42 ∷ 107 ∷ 91 ∷ 102 ∷ 35 ∷ 93 ∷ []) false (Key 1)
-    -- `*k[b-e-a-]`
-    ∷ reads (42 ∷ 107 ∷ 91 ∷ 98 ∷ 45 ∷ 101 ∷ 45 ∷ 97 ∷ 45 ∷ 93 ∷ []) false (Key 253)
-    -- `*k[b-e-a-d-g-c-f-]`
-    ∷ reads (42 ∷ 107 ∷ 91 ∷ 98 ∷ 45 ∷ 101 ∷ 45 ∷ 97 ∷ 45 ∷ 100 ∷ 45 ∷ 103 ∷ 45 ∷ 99 ∷ 45 ∷ 102 ∷ 45 ∷ 93 ∷ []) false (Key 249)
-    -- `*k[`
-    ∷ reads (42 ∷ 107 ∷ 91 ∷ []) false (Notice 10)
-    -- `*k[f#b-]`
-    ∷ reads (42 ∷ 107 ∷ 91 ∷ 102 ∷ 35 ∷ 98 ∷ 45 ∷ 93 ∷ []) false (Notice 11)
+    -- the fifteen standard signatures
+    ∷ reads (ascii "*k[]") false (Key 0)
+    ∷ reads (ascii "*k[f#]") false (Key 1)
+    ∷ reads (ascii "*k[f#c#]") false (Key 2)
+    ∷ reads (ascii "*k[f#c#g#]") false (Key 3)
+    ∷ reads (ascii "*k[f#c#g#d#]") false (Key 4)
+    ∷ reads (ascii "*k[f#c#g#d#a#]") false (Key 5)
+    ∷ reads (ascii "*k[f#c#g#d#a#e#]") false (Key 6)
+    ∷ reads (ascii "*k[f#c#g#d#a#e#b#]") false (Key 7)
+    ∷ reads (ascii "*k[b-]") false (Key 255)
+    ∷ reads (ascii "*k[b-e-]") false (Key 254)
+    ∷ reads (ascii "*k[b-e-a-]") false (Key 253)
+    ∷ reads (ascii "*k[b-e-a-d-]") false (Key 252)
+    ∷ reads (ascii "*k[b-e-a-d-g-]") false (Key 251)
+    ∷ reads (ascii "*k[b-e-a-d-g-c-]") false (Key 250)
+    ∷ reads (ascii "*k[b-e-a-d-g-c-f-]") false (Key 249)
+    -- others: another step, another order, upper case, a step without a sign, both signs, a step too many
+    ∷ reads (ascii "*k[g#]") false (Notice 11)
+    ∷ reads (ascii "*k[f#g#]") false (Notice 11)
+    ∷ reads (ascii "*k[c#f#]") false (Notice 11)
+    ∷ reads (ascii "*k[f#f#]") false (Notice 11)
+    ∷ reads (ascii "*k[e-b-]") false (Notice 11)
+    ∷ reads (ascii "*k[b-e-a-d-g-f-]") false (Notice 11)
+    ∷ reads (ascii "*k[F#]") false (Notice 11)
+    ∷ reads (ascii "*k[B-]") false (Notice 11)
+    ∷ reads (ascii "*k[f]") false (Notice 11)
+    ∷ reads (ascii "*k[f#c]") false (Notice 11)
+    ∷ reads (ascii "*k[##]") false (Notice 11)
+    ∷ reads (ascii "*k[f#b-]") false (Notice 11)
+    ∷ reads (ascii "*k[f-]") false (Notice 11)
+    ∷ reads (ascii "*k[b#]") false (Notice 11)
+    ∷ reads (ascii "*k[f#c#g#d#a#e#b#f#]") false (Notice 11)
+    ∷ reads (ascii "*k[b-e-a-d-g-c-f-b-]") false (Notice 11)
+    ∷ reads (ascii "*k[ f#]") false (Notice 11)
+    ∷ reads (ascii "*k[f#]]") false (Notice 11)
     -- `*k[é##]`
-    ∷ reads (42 ∷ 107 ∷ 91 ∷ 195 ∷ 169 ∷ 35 ∷ 35 ∷ 93 ∷ []) false (Key 2)
+    ∷ reads (42 ∷ 107 ∷ 91 ∷ 195 ∷ 169 ∷ 35 ∷ 35 ∷ 93 ∷ []) false (Notice 11)
+    -- without the bracket
+    ∷ reads (ascii "*k[") false (Notice 10)
+    ∷ reads (ascii "*k[f#") false (Notice 10)
     -- `*M4/4`
     ∷ reads (42 ∷ 77 ∷ 52 ∷ 47 ∷ 52 ∷ []) false (Meter 4 4)
     -- `*M4/+4`

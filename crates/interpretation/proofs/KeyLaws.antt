@@ -1,57 +1,44 @@
 -- Key signatures and key designations: each answer of the code, from the tests that led to it.
-use mathlib.Core.Path.{_≡_, refl, sym, _∙_}
-use Prim.Native.Nat.{ℕ, _+_, _-_, _*_, _%_, _≤_, _<_}
+use mathlib.Core.Path.{_≡_, refl, sym, ap, _∙_}
+use Prim.Native.Nat.{ℕ, _-_, _/_, _%_, _≤_, _<_}
 use native.Mathlib.Omega.{arith}
 use mathlib.Core.List.{List, [], _∷_}
 use mathlib.Core.Bool.{Bool, true, false, cond}
 use lib.Dec.{eqb}
-use lib.ListN.{length, take, getD}
+use lib.ListN.{length, take, getD, length-take}
 use lib.Seq.{getD-take, length-take-le}
 use borrow.Author.Tests.{le-leb, lt-leb, eq-eqb, ne-eqb}
-use Rattle.slices.specs.Split.{split}
-use Rattle.slices.proofs.SplitLaws.{count-more, count-none}
-use Rattle.interpretation.specs.Key.{occurrences, endsWith, withoutLast, fifthsOf, signatureOf, keyOf, tonicMode, modeOf}
-use Rattle.interpretation.specs.declared.Interpretation.{Interpretation}
+use Rattle.slices.specs.Compare.{beginsWith}
+use Rattle.slices.proofs.CompareLaws.{begins-is}
+use Rattle.slices.proofs.TestLaws.{clash}
+use Rattle.interpretation.specs.Key.{sharpOrder, flatOrder, endsWith, withoutLast, isPrefix, signatureOf, keyOf, tonicMode, modeOf}
 use Rattle.interpretation.specs.declared.Interpretation.the-variants.{Key, Mode, Notice}
 
--- a text has one piece more than there are bytes b in it
-pub pieces-of : (b : ℕ) (s : List ℕ) → length (split b s) ≡ occurrences b s + 1
-unfolding occurrences
-pieces-of b [] = count-none b
-pieces-of b (x ∷ s) = omega (arith, count-more b x s, pieces-of b s)
+-- a prefix is no longer than its order, and a text that is none has a byte
+pub steps-few : (s order : List ℕ) → beginsWith s order ≡ true → length s ≤ length order
+steps-few s order e = omega (arith, simp length-take at (ap length (begins-is s order e)))
 
-module _ (bytes sharps flats : ℕ) where
-  pub many : 7 < sharps + flats → Notice 11 ≡ fifthsOf bytes sharps flats
-  unfolding fifthsOf
-  many h = rw (lt-leb _ _ h)
+pub steps-some : (s order : List ℕ) → beginsWith s order ≡ false → 0 < length s
+unfolding beginsWith
+steps-some [] order e = clash (cc)
+steps-some (x ∷ s) order e = omega arith
 
-  pub odd : sharps + flats ≤ 7 → (bytes ≡ 2 * (sharps + flats) → ⊥) → Notice 11 ≡ fifthsOf bytes sharps flats
-  unfolding fifthsOf
-  odd h n = rw (le-leb _ _ h, ne-eqb _ _ n)
+pub steps-odd : (s : List ℕ) → (length s % 2 ≡ 0 → ⊥) → Notice 11 ≡ signatureOf s
+unfolding signatureOf isPrefix
+steps-odd s h = rw (ne-eqb _ _ h)
 
-  pub sharp : sharps + flats ≤ 7 → bytes ≡ 2 * (sharps + flats) → flats ≡ 0 → Key sharps ≡ fifthsOf bytes sharps flats
-  unfolding fifthsOf
-  sharp h n e =
-      let m : (256 + sharps - flats) % 256 ≡ sharps = omega arith in
-      rw (le-leb _ _ h, eq-eqb _ _ n, eq-eqb _ _ e, m)
+module _ (s : List ℕ) (even : length s % 2 ≡ 0) {b : Bool} (sharp : b ≡ beginsWith s sharpOrder) where
+  pub steps-sharp : b ≡ true → Key (length s / 2) ≡ signatureOf s
+  unfolding signatureOf isPrefix
+  steps-sharp e = rw (eq-eqb _ _ even, sym sharp ∙ e)
 
-  pub flat : sharps + flats ≤ 7 → bytes ≡ 2 * (sharps + flats) → (flats ≡ 0 → ⊥) → sharps ≡ 0 → Key (256 - flats) ≡ fifthsOf bytes sharps flats
-  unfolding fifthsOf
-  flat h n e z =
-      let m : (256 + sharps - flats) % 256 ≡ 256 - flats = omega arith in
-      rw (le-leb _ _ h, eq-eqb _ _ n, ne-eqb _ _ e, eq-eqb _ _ z, m)
+  pub steps-flat : {c : Bool} → b ≡ false → c ≡ beginsWith s flatOrder → c ≡ true → Key (256 - length s / 2) ≡ signatureOf s
+  unfolding signatureOf isPrefix
+  steps-flat e flat f = rw (eq-eqb _ _ even, sym sharp ∙ e, sym flat ∙ f)
 
-  pub mixed : sharps + flats ≤ 7 → bytes ≡ 2 * (sharps + flats) → (flats ≡ 0 → ⊥) → (sharps ≡ 0 → ⊥) → Notice 11 ≡ fifthsOf bytes sharps flats
-  unfolding fifthsOf
-  mixed h n e z = rw (le-leb _ _ h, eq-eqb _ _ n, ne-eqb _ _ e, ne-eqb _ _ z)
-
-pub signature-by : (s : List ℕ) {m n : ℕ} {r : Interpretation} → (m ≡ length (split 35 s)) × (m ≤ length s + 1) → (n ≡ length (split 45 s)) × (n ≤ length s + 1)
-    → r ≡ fifthsOf (length s) (m - 1) (n - 1) → r ≡ signatureOf s
-unfolding signatureOf
-signature-by s {m} {n} p q e =
-    let sharps : m - 1 ≡ occurrences 35 s = omega (arith, pieces-of 35 s) in
-    let flats : n - 1 ≡ occurrences 45 s = omega (arith, pieces-of 45 s) in
-    e ∙ rw (sharps, flats)
+  pub steps-other : {c : Bool} → b ≡ false → c ≡ beginsWith s flatOrder → c ≡ false → Notice 11 ≡ signatureOf s
+  unfolding signatureOf isPrefix
+  steps-other e flat f = rw (eq-eqb _ _ even, sym sharp ∙ e, sym flat ∙ f)
 
 module _ (s : List ℕ) where
   pub key-open : (getD s (length s - 1) 0 ≡ 93 → ⊥) → Notice 10 ≡ keyOf s

@@ -4,6 +4,7 @@ pub mod DigitLaws
 pub mod WordLaws
 pub mod NameLaws
 pub mod KeyLaws
+pub mod Signatures
 pub mod MeterLaws
 pub mod TempoLaws
 pub mod MarkLaws

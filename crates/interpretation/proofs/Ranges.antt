@@ -1,7 +1,7 @@
 -- The ranges of what an interpretation says.
 use mathlib.Core.Path.{_≡_, refl}
-use Prim.Native.Nat.{ℕ, suc, _+_, _-_, _*_, _/_, _^_, _≤_, _<_}
-use native.Mathlib.Nat.{one-le-pow, mod-lt}
+use Prim.Native.Nat.{ℕ, suc, _+_, _*_, _/_, _^_, _≤_, _<_}
+use native.Mathlib.Nat.{one-le-pow}
 use native.Mathlib.Omega.{arith}
 use mathlib.Core.List.{List, _++_}
 use mathlib.Core.Bool.{Bool, true, false, _&&_, _||_, cond, not, false≢true}
@@ -13,13 +13,14 @@ use Rattle.slices.specs.Finite.{below}
 use Rattle.slices.specs.Split.{indexOf}
 use Rattle.slices.proofs.TestLaws.{both}
 use Rattle.interpretation.proofs.NameLaws.{place-most}
+use Rattle.interpretation.proofs.Signatures.{Signature, sharps, flats, other, signature-read}
 use Rattle.interpretation.proofs.MeterLaws.{byte-small}
 use Rattle.interpretation.proofs.TempoLaws.{rounded-most, rounded-least}
 use Rattle.interpretation.specs.Digits.{allDigits, decimal}
 use Rattle.interpretation.specs.Number.{byteNumber}
 use Rattle.interpretation.specs.Words.{placeOf}
 use Rattle.interpretation.specs.Clef.{clefs, clefOf}
-use Rattle.interpretation.specs.Key.{occurrences, endsWith, withoutLast, fifthsOf, signatureOf, keyOf, tonicMode, modeOf}
+use Rattle.interpretation.specs.Key.{endsWith, withoutLast, keyOf, tonicMode, modeOf}
 use Rattle.interpretation.specs.Meter.{powerBelow, powerOfTwo, withoutPlus, meterFrom, meterOf, symbols, symbolOf}
 use Rattle.interpretation.specs.Tempo.{rounded, tempoFrom, tempoOf}
 use Rattle.interpretation.specs.Interpretation.{clefMark, keyMark, symbolMark, tempoMark, nameMark, shortNameMark, meterMark, isAttribute, otherOf, meaningOf, interpretationOf}
@@ -66,19 +67,14 @@ symbol-range s = go (eqb (placeOf symbols s) 0) refl
     go true e = notice 13 (omega arith) (omega arith)
     go false e = let n = eqb-false (placeOf symbols s) 0 e in record { range = omega (arith, place-most symbols s) }
 
-fifths-range : (bytes sharps flats : ℕ) → InRange (fifthsOf bytes sharps flats)
-unfolding fifthsOf
-fifths-range bytes sharps flats =
-    either (leb (sharps + flats) 7 && eqb bytes (2 * (sharps + flats)) && (eqb flats 0 || eqb sharps 0))
-    (record { range = mod-lt (256 + sharps - flats) {m = 256} (omega arith) })
-    (notice 11 (omega arith) (omega arith))
+signature-range : {s : List ℕ} {r : Interpretation} → Signature s r → InRange r
+signature-range (sharps n h e) = record { range = omega arith }
+signature-range (flats n h l e) = record { range = omega arith }
+signature-range other = notice 11 (omega arith) (omega arith)
 
 key-range : (s : List ℕ) → InRange (keyOf s)
-unfolding keyOf signatureOf
-key-range s =
-    either (endsWith 93 s)
-    (fifths-range (length (withoutLast s)) (occurrences 35 (withoutLast s)) (occurrences 45 (withoutLast s)))
-    (notice 10 (omega arith) (omega arith))
+unfolding keyOf
+key-range s = either (endsWith 93 s) (signature-range (signature-read (withoutLast s))) (notice 10 (omega arith) (omega arith))
 
 tonic-range : (b : ℕ) → InRange (tonicMode b)
 unfolding tonicMode

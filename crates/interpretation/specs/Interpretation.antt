@@ -13,7 +13,7 @@ use Rattle.interpretation.specs.Digits.{isDigit, allDigits, decimalOn, d
 use Rattle.interpretation.specs.Number.{byteNumber}
 use Rattle.interpretation.specs.Words.{placeFrom, placeOf}
 use Rattle.interpretation.specs.Clef.{clefs, clefOf}
-use Rattle.interpretation.specs.Key.{occurrences, endsWith, withoutLast, fifthsOf, signatureOf, keyOf, tonicMode, modeOf}
+use Rattle.interpretation.specs.Key.{endsWith, withoutLast, isPrefix, signatureOf, keyOf, tonicMode, modeOf}
 use Rattle.interpretation.specs.Meter.{powerBelow, powerOfTwo, withoutPlus, meterFrom, meterOf, symbols, symbolOf}
 use Rattle.interpretation.specs.Tempo.{rounded, tempoFrom, tempoOf}
 
@@ -66,5 +66,5 @@ interpretationOf token noted =
 
 -- the same with every definition open: a proof that computes on a token says `unfolding computed`
 unfoldable pub computed : List ℕ → Bool → Interpretation
-unfolding beginsWith sameBytes indexOf isDigit allDigits decimalOn decimal byteNumber placeFrom placeOf clefs clefOf occurrences endsWith withoutLast fifthsOf signatureOf keyOf tonicMode modeOf powerBelow powerOfTwo withoutPlus meterFrom meterOf symbols symbolOf rounded tempoFrom tempoOf meterMark isAttribute otherOf meaningOf interpretationOf
+unfolding beginsWith sameBytes indexOf isDigit allDigits decimalOn decimal byteNumber placeFrom placeOf clefs clefOf endsWith withoutLast isPrefix signatureOf keyOf tonicMode modeOf powerBelow powerOfTwo withoutPlus meterFrom meterOf symbols symbolOf rounded tempoFrom tempoOf meterMark isAttribute otherOf meaningOf interpretationOf
 computed token noted = interpretationOf token noted

@@ -1,16 +1,13 @@
 -- Key signatures and key designations.
-use Prim.Native.Nat.{ℕ, _+_, _-_, _*_, _%_}
-use mathlib.Core.Bool.{Bool, _&&_, _||_, cond}
-use mathlib.Core.List.{List, [], _∷_}
+use Prim.Native.Nat.{ℕ, _-_, _/_, _%_}
+use mathlib.Core.Bool.{Bool, _&&_, cond}
+use mathlib.Core.List.{List}
 use lib.Dec.{eqb, leb}
 use lib.ListN.{length, getD, take}
+use Rattle.slices.specs.Ascii.{ascii}
+use Rattle.slices.specs.Compare.{beginsWith}
 use Rattle.interpretation.specs.declared.Interpretation.{Interpretation}
 use Rattle.interpretation.specs.declared.Interpretation.the-variants.{Key, Mode, Notice}
-
--- how many bytes of a text are b
-unfoldable pub occurrences : ℕ → List ℕ → ℕ
-occurrences b [] = 0
-occurrences b (x ∷ xs) = cond (eqb x b) 1 0 + occurrences b xs
 
 -- whether a text's last byte is b, for a b above 0
 unfoldable pub endsWith : ℕ → List ℕ → Bool
@@ -20,16 +17,22 @@ endsWith b s = eqb (getD s (length s - 1) 0) b
 unfoldable pub withoutLast : List ℕ → List ℕ
 withoutLast s = take (length s - 1) s
 
--- the source: seven signs at most, two bytes to each, of one kind only; fifths in two's complement, flats below 0. Else notice 11
-unfoldable pub fifthsOf : ℕ → ℕ → ℕ → Interpretation
-fifthsOf bytes sharps flats =
-    cond (leb (sharps + flats) 7 && eqb bytes (2 * (sharps + flats)) && (eqb flats 0 || eqb sharps 0))
-    (Key ((256 + sharps - flats) % 256))
-    (Notice 11)
+-- `SHARP_ORDER` and `FLAT_ORDER` of notation.rs, in lower case, each step with its sign
+abbrev pub sharpOrder : List ℕ
+sharpOrder = ascii "f#c#g#d#a#e#b#"
 
--- sharps are `#`, flats `-`
+abbrev pub flatOrder : List ℕ
+flatOrder = ascii "b-e-a-d-g-c-f-"
+
+-- whether a text is a prefix of an order: its first steps, from none to all seven, two bytes to each
+unfoldable pub isPrefix : List ℕ → List ℕ → Bool
+isPrefix order s = eqb (length s % 2) 0 && beginsWith s order
+
+-- request E7: "The standard ones are the prefixes of `SHARP_ORDER` and `FLAT_ORDER`"; as many fifths as steps, in two's complement, flats below 0; "anything else in closed brackets is notice 11"
 unfoldable pub signatureOf : List ℕ → Interpretation
-signatureOf s = fifthsOf (length s) (occurrences 35 s) (occurrences 45 s)
+signatureOf s =
+    cond (isPrefix sharpOrder s) (Key (length s / 2))
+    (cond (isPrefix flatOrder s) (Key (256 - length s / 2)) (Notice 11))
 
 -- document 01: "10 key without `]`"
 unfoldable pub keyOf : List ℕ → Interpretation

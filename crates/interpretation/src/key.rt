@@ -1,40 +1,22 @@
 // Key signatures and key designations.
 use crate::Interpretation;
 ghost use mathlib.Core.Path.{_≡_};
-ghost use Rattle.interpretation.specs.Key.{fifthsOf, signatureOf, keyOf, tonicMode, modeOf};
+ghost use Rattle.interpretation.specs.Key.{signatureOf, keyOf, tonicMode, modeOf};
 
-// The key signature of a number of sharps and flats in a text of `bytes` bytes.
-fn fifths(bytes: usize, sharps: usize, flats: usize) -> Interpretation
-    ensures { λ r. ⌜ r ≡ fifthsOf bytes sharps flats ⌝ }
-{
-    if 7 < sharps {
-        return Interpretation::Notice(11);
-    }
-    if 7 < flats {
-        return Interpretation::Notice(11);
-    }
-    if 7 < sharps + flats {
-        return Interpretation::Notice(11);
-    }
-    if bytes != 2 * (sharps + flats) {
-        return Interpretation::Notice(11);
-    }
-    if flats == 0 {
-        return Interpretation::Key(sharps as u8);
-    }
-    if sharps == 0 {
-        return Interpretation::Key((256 - flats) as u8);
-    }
-    Interpretation::Notice(11)
-}
-
-// The key signature that stands between the brackets.
+// The key signature that stands between the brackets: the first steps of one of two orders.
 fn signature(s: &[u8]) -> Interpretation
     ensures { λ r. ⌜ r ≡ signatureOf (now (s .entry)) ⌝ }
 {
-    let sharps = search::count(s, b'#') - 1;
-    let flats = search::count(s, b'-') - 1;
-    fifths(s.len(), sharps, flats)
+    if s.len() % 2 != 0 {
+        return Interpretation::Notice(11);
+    }
+    if slices::begins(b"f#c#g#d#a#e#b#", s) {
+        return Interpretation::Key((s.len() / 2) as u8);
+    }
+    if slices::begins(b"b-e-a-d-g-c-f-", s) {
+        return Interpretation::Key((256 - s.len() / 2) as u8);
+    }
+    Interpretation::Notice(11)
 }
 
 // The key signature that the text behind `k[` gives.

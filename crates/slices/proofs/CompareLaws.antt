@@ -7,7 +7,7 @@ use native.Mathlib.Omega.{arith}
 use mathlib.Core.List.{List, [], _∷_}
 use mathlib.Core.Bool.{Bool, true, false, _&&_}
 use lib.Dec.{eqb}
-use lib.ListN.{length, drop, getD, drop-of-length-le}
+use lib.ListN.{length, take, drop, getD, drop-of-length-le}
 use lib.Seq.{drop-cons}
 use borrow.Author.Tests.{eq-eqb, ne-eqb, eqb-true}
 use Rattle.slices.specs.Compare.{beginsWith, sameBytes}
@@ -70,4 +70,14 @@ same-is (x ∷ p) (y ∷ s) e = go (eqb y x) refl (same-is p s) e
   where
     go : (b : Bool) → eqb y x ≡ b → (sameBytes p s ≡ true → s ≡ p) → (b && sameBytes p s) ≡ true → y ∷ s ≡ x ∷ p
     go true q ih r = let u : y ≡ x = eqb-true y x q in let v : s ≡ p = ih r in cc
+    go false q ih r = cc
+
+pub begins-is : (p s : List ℕ) → beginsWith p s ≡ true → p ≡ take (length p) s
+unfolding beginsWith
+begins-is [] s e = refl
+begins-is (x ∷ p) [] e = cc
+begins-is (x ∷ p) (y ∷ s) e = go (eqb y x) refl (begins-is p s) e
+  where
+    go : (b : Bool) → eqb y x ≡ b → (beginsWith p s ≡ true → p ≡ take (length p) s) → (b && beginsWith p s) ≡ true → x ∷ p ≡ y ∷ take (length p) s
+    go true q ih r = let u : y ≡ x = eqb-true y x q in let v : p ≡ take (length p) s = ih r in cc
     go false q ih r = cc

@@ -64,7 +64,7 @@ count-by b x xs false =
     ap (λ (r : List (List ℕ)). length (join false x r)) (first-piece b xs)
     ∙ sym (zero-add _ ∙ ap length (first-piece b xs))
 
-pub count-more : (b x : ℕ) (xs : List ℕ) → length (split b (x ∷ xs)) ≡ cond (eqb x b) 1 0 + length (split b xs)
+count-more : (b x : ℕ) (xs : List ℕ) → length (split b (x ∷ xs)) ≡ cond (eqb x b) 1 0 + length (split b xs)
 unfolding split
 count-more b x xs = count-by b x xs (eqb x b)
 
@@ -87,7 +87,7 @@ index-inside b (x ∷ s) = go (eqb x b) (index-inside b s)
     go true h = omega arith
     go false h = omega arith
 
-pub count-none : (b : ℕ) → length (split b []) ≡ 1
+count-none : (b : ℕ) → length (split b []) ≡ 1
 unfolding split
 count-none b = refl
 
