@@ -14,8 +14,8 @@
 extern "C" {
 #endif
 
-/* Reads a text into a buffer. Answers 0 for an acceptance, else the number of the refusal, 1 to 13. `answer` is then 0, 0 and the
- * sheet's length, or the refusal's number, line and figure; the figure of 13 is the length that the buffer needs, under 2^32. After an
+/* Reads a text into a buffer. Answers 0 for an acceptance, else the number of the refusal, 1 to 13 or 17. `answer` is then 0, 0 and
+ * the sheet's length, or the refusal's number, line and figure; the figure of 13 is the length that the buffer needs, under 2^32. After an
  * acceptance the buffer holds the sheet first and its old bytes behind; after a refusal it is unchanged. */
 uint32_t kern_read(const uint8_t *text, size_t text_len, uint8_t *out, size_t out_len, uint64_t answer[3]);
 

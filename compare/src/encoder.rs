@@ -328,6 +328,20 @@ fn peers<'a>(tokens: &[&'a [u8]], row: &[Spine], column: usize) -> Option<&'a [u
 }
 
 /// The right and the left barline of a deciding token.
+/// The first column, from 1, of the first run of `*v` that joins lines of two parts, or of kern and of another kind.
+fn mixed_run(tokens: &[&[u8]], row: &[Spine]) -> Option<usize> {
+    let mut begin = 0;
+    for run in tokens.chunk_by(|a, b| *a == b"*v" && *b == b"*v") {
+        let mut parts: Vec<Option<usize>> = row[begin..begin + run.len()].iter().map(|s| if let Spine::Line(p, _) = s { Some(*p) } else { None }).collect();
+        parts.dedup();
+        if parts.len() > 1 {
+            return Some(begin + 1);
+        }
+        begin += run.len();
+    }
+    None
+}
+
 fn barlines(token: &[u8]) -> (u8, u8) {
     let body = &token[token.iter().take_while(|b| **b == b'=').count()..];
     let has = |pair: &[u8]| body.windows(2).any(|w| w == pair);
@@ -425,6 +439,9 @@ impl Reader {
     }
 
     fn star(&mut self, tokens: &[&[u8]], places: &[usize], line: usize) -> Result<(), Refusal> {
+        if let Some(column) = mixed_run(tokens, &self.row) {
+            return Err((17, line as u32, column));
+        }
         let row = std::mem::take(&mut self.row);
         let mut next = Vec::new();
         let mut i = 0;

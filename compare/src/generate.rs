@@ -231,7 +231,7 @@ fn paths(seed: &mut Seed) -> Vec<u8> {
     let mut row: Vec<usize> = (0..many).map(|_| if seed.below(8) == 0 { OUTSIDE } else { parts += 1; parts - 1 }).collect();
     let header: Vec<&str> = row.iter().map(|p| if *p == OUTSIDE { "**text" } else { "**kern" }).collect();
     let mut lines = vec![header.join("\t")];
-    let (bold, open) = (seed.below(10) == 0, seed.below(3) == 0);
+    let (bold, open, mingled) = (seed.below(10) == 0, seed.below(3) == 0, seed.below(8) == 0);
     for _ in 0..2 + seed.below(8) {
         if row.is_empty() {
             break;
@@ -245,7 +245,7 @@ fn paths(seed: &mut Seed) -> Vec<u8> {
         row.iter().filter(|p| **p != OUTSIDE).for_each(|p| lines_of[*p] += 1);
         let mut tokens: Vec<&str> = Vec::new();
         let mut run = "*";
-        for p in &row {
+        for (i, p) in row.iter().enumerate() {
             let token = match seed.below(12) {
                 0..3 => "*^",
                 3 | 4 => "*v",
@@ -259,6 +259,8 @@ fn paths(seed: &mut Seed) -> Vec<u8> {
             let full = *p != OUTSIDE && lines_of[*p] >= 4 && !bold && seed.below(30) > 0;
             let wide = row.len() + tokens.iter().filter(|t| matches!(**t, "*^" | "*+")).count() >= 256 && !open;
             let token = if matches!(token, "*^" | "*+") && (full || wide) { "*" } else { token };
+            // few texts join lines of two origins, as these are refused
+            let token = if token == "*v" && run == "*v" && row[i - 1] != *p && !mingled { "*" } else { token };
             if token == "*^" && *p != OUTSIDE {
                 lines_of[*p] += 1;
             }

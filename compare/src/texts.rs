@@ -1,6 +1,6 @@
 //! The replayed list of texts with their sheets or refusals. What the source's report holds of each text is the source's (the list is
-//! only written where the encoder's sheet says the same, or request E7 sets a signature apart); lines, columns, spans and the order of
-//! records are the encoder's, which was written from document 01.
+//! only written where the encoder's sheet says the same, request E7 sets a signature apart, or the text is refused with 17, which the
+//! source takes); lines, columns, spans and the order of records are the encoder's, which was written from document 01.
 use crate::check;
 use crate::encoder;
 use crate::generate::{self, Seed};
@@ -54,6 +54,21 @@ pub fn picked() -> Vec<Vec<u8>> {
     texts.push(two("*+\t*\n4c\t.\t4e\n*^\t*^\t*+\n4c\t4d\t.\t.\t4e\t.\n*-\t*\t*\t*\t*-\t*\n4c\tx\t.\t.\n"));
     texts.push(b"**kern\t**text\t**kern\n*\t*^\t*\n4c\tx\ty\t4e\n*\t*v\t*v\t*v\n4c\tz\n*v\t*v\n4d\n".to_vec());
     texts.push(kern("4c\n*v\n4d\n*x\n4e\n*-\t\n"));
+    // joins over two parts, over kern and another kind, behind an exchange, in a second run; 7 before 17, 17 before 8 and 9; a lone `*v`, and one outside kern
+    texts.push(two("4c\t4e\n*^\t*\n4c\t4d\t4e\n*v\t*v\t*v\n4c\n"));
+    texts.push(two("4c\t4e\n*v\t*v\n"));
+    texts.push(two("4c\t4e\n*^\t*^\n*\t*x\t*x\t*\n4c\t4d\t4e\t4f\n*\t*\t*v\t*v\n4c\t4d\t4e\n*-\t*-\t*-\n"));
+    texts.push(two("4c\t4e\n*^\t*^\n*\t*x\t*x\t*\n4c\t4d\t4e\t4f\n*v\t*\t*v\t*v\n"));
+    texts.push(b"**text\t**kern\t**dyn\n.\t4c\t.\n*\t*v\t*v\n".to_vec());
+    texts.push(b"**text\t**dyn\t**kern\n.\t.\t4c\n*v\t*v\t*\n.\t4d\n*v\t*v\n".to_vec());
+    texts.push(b"**kern\t**text\n*+\t*\n4c\t.\t.\n*\t*v\t*v\n4d\t.\n*-\t*-\n".to_vec());
+    texts.push(two("*v\t*v\t\n"));
+    texts.push(two("*v\t*v\tx\n"));
+    texts.push(b"**kern\t**kern\t**kern\n*v\t*v\tx\n".to_vec());
+    texts.push(b"**kern\t**kern\t**kern\n4c\t4c\t4c\n*^\t*\t*\n*^\t*^\t*\t*\n*^\t*\t*\t*\t*v\t*v\n".to_vec());
+    texts.push(b"**kern\t**kern\t**kern\n4c\t4c\t4c\n*^\t*\t*\n*v\t*v\t*x\t*x\n4c\t4c\t4c\n*^\t*\t*^\n*v\t*v\t*\t*v\t*v\n4c\t4d\t4e\n*\t*v\t*v\n".to_vec());
+    texts.push(wide(256, &format!("*v\t*v\t{}\n", joined("*^", 254))));
+    texts.push(wide(256, &format!("{}\t*v\t*v\n", joined("*^", 254))));
     // the sextet's low staff: two lines end and two split in one record
     texts.push(std::fs::read("examples/sextet.krn").unwrap_or_else(|_| two("4c\t4C\n*\t*^\n*\t*^\t*^\n4c\t4C\t4E\t4G\t4B\n*\t*-\t*^\t*^\t*-\n4c\t4C\t4D\t4E\t4F\n")));
     // 256 and 257 columns, rows past 256, a sheet past the room
@@ -107,7 +122,7 @@ fn run(program: &str, input: Vec<u8>) -> Vec<u8> {
 /// Texts by a seed through the program, beside the encoder and the source; the first that differs is cut down, line by line, and shown.
 pub fn beside(program: &str, seed: u64, texts: usize) -> ExitCode {
     let mut seed = Seed(2 * seed + 1);
-    let (mut done, mut accepted, mut different) = (0, 0, 0);
+    let (mut done, mut accepted, mut mixed, mut different) = (0, 0, 0, 0);
     while done < texts {
         let (mut input, mut expected, mut batch) = (Vec::new(), Vec::new(), Vec::new());
         while done + batch.len() < texts {
@@ -123,6 +138,7 @@ pub fn beside(program: &str, seed: u64, texts: usize) -> ExitCode {
         let agrees = run(program, input) == expected;
         for text in batch {
             accepted += usize::from(encoder::sheet(&text).is_ok());
+            mixed += usize::from(check::mixes(&text));
             if !check::agree(&text) || (!agrees && run(program, request(&text)) != answer(&text)) {
                 different += 1;
                 if different == 1 {
@@ -132,7 +148,7 @@ pub fn beside(program: &str, seed: u64, texts: usize) -> ExitCode {
             }
         }
     }
-    println!("texts: {done} texts, {accepted} accepted, {different} different");
+    println!("texts: {done} texts, {accepted} accepted, {mixed} refused with 17 and not held to the source, {different} different");
     if different == 0 { ExitCode::SUCCESS } else { ExitCode::FAILURE }
 }
 

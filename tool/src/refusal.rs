@@ -28,6 +28,7 @@ impl fmt::Display for Refusal {
             13 => write!(f, "The buffer is too short for what is written, which has {figure} bytes."),
             14 => write!(f, "No value fits the ticks that remain of the hole."),
             15 => write!(f, "The voice would have more than 50,000 notes."),
+            17 => write!(f, "The `*v` from column {figure} on join lines of different parts, or of kern and of another kind."),
             number => write!(f, "The text is refused with {number}, figure {figure}."),
         }
     }

@@ -53,6 +53,7 @@ fn mark(text: &[u8], line: &[u8], refusal: Refusal) -> Option<usize> {
         6 => Some(row_at(text, refusal.line).len()),
         7 => tokens.iter().position(|t| !t.starts_with(b"*")),
         8 => voiceless(&rows::next_row(&row_at(text, refusal.line), &tokens), refusal.figure as usize),
+        17 => Some(refusal.figure as usize - 1),
         _ => None,
     }
     .map(|column| start_of(&tokens, column))

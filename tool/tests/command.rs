@@ -110,6 +110,13 @@ fn the_mark_is_under_the_branch_without_a_voice() {
 }
 
 #[test]
+fn refused_with_17() {
+    let said = refused(b"**kern\t**kern\t**kern\n*\t*v\t*v\n");
+    assert!(said.starts_with("refused: The `*v` from column 2 on join lines of different parts, or of kern and of another kind.\n"), "{said}");
+    assert!(said.ends_with("line 2: *\t*v\t*v\n         \t^\nnumber 17, line 2, figure 2\n"), "{said}");
+}
+
+#[test]
 fn refused_with_6() {
     let said = refused(b"**kern\n4c\t4d\n");
     assert!(said.ends_with("line 2: 4c\t4d\n          \t^\nactive spines: 1\nnumber 6, line 2, figure 2\n"), "{said}");

@@ -61,6 +61,7 @@ fn refusals() {
     assert_eq!(of(b"**kern\n4c\t4d\n"), refusal(6, 2, 2));
     assert_eq!(of(b"**kern\t**kern\n*\t4c\n"), refusal(7, 2, 0));
     assert_eq!(of(b"**kern\n*^\n*^\t*^\n*\t*^\t*\t*\n"), refusal(8, 4, 0));
+    assert_eq!(of(b"**kern\t**text\t**kern\n*\t*v\t*v\n"), refusal(17, 2, 2));
     assert_eq!(of(b""), refusal(11, 0, 0));
     assert_eq!(of(b"**kern\n*-\n"), refusal(12, 0, 0));
 }

@@ -1,5 +1,5 @@
--- "Notes of one record never share part and voice": for every text.
-use Prim.Native.Nat.{ℕ, suc, _+_, _<_, _≤_}
+-- The rows of a text's taken records: "Notes of one record never share part and voice", and every trace ends in one part; for every text.
+use Prim.Native.Nat.{ℕ, zero, suc, _+_, _<_, _≤_}
 use native.Mathlib.Omega.{arith}
 use mathlib.Core.Bool.{Bool, true, false, cond}
 use mathlib.Core.List.{List, [], _∷_, _++_}
@@ -14,10 +14,10 @@ use Rattle.lines.specs.declared.Kind.the-variants.{Empty, Reference, Comment, S
 use Rattle.token.specs.Account.{isNote}
 use Rattle.paths.specs.Demand.{At}
 use Rattle.paths.specs.Record.{Rec, plain}
-use Rattle.paths.specs.Row.{Spine, line, branch, outside}
-use Rattle.paths.specs.Text.{headerRow, reading, readTo, spineAt}
+use Rattle.paths.specs.Row.{Spine, line, branch, outside, spineAt}
+use Rattle.paths.specs.Text.{headerRow, reading, readTo}
 use Rattle.paths.specs.Trace.{part, columns}
-use Rattle.paths.specs.Voices.{Outcome, next, voiceless, wide}
+use Rattle.paths.specs.Voices.{Outcome, next, mixed, voiceless, wide}
 use Rattle.paths.proofs.Demand.{demand}
 use Rattle.repair.specs.Repair.{repaired, repairedOf}
 use Rattle.repair.specs.declared.Repaired.{Repaired}
@@ -26,8 +26,9 @@ use Rattle.sheet.specs.Player.{Noted, notesOf}
 use Rattle.sheet.specs.Record.{Record}
 use Rattle.reading.specs.Header.{freshParts}
 use Rattle.reading.specs.Text.{accepted, readText}
-use Rattle.account.specs.Rows.{Numbered, isRecord, recordsFrom, recordsOf, headerIn, pathsFrom, pathsOf, Taken, rowAfter, whereEven, whereNext, takenFrom, takenOf}
+use Rattle.account.specs.Rows.{Numbered, isRecord, recordsFrom, recordsOf, headerIn, headerOf, laterIn, pathsFrom, pathsOf, Taken, rowAfter, whereEven, whereNext, takenFrom, takenOf}
 use Rattle.account.specs.Account.{Item, inferredOf, itemOf, itemIn, itemsFrom, closingsAfter, notedAfter, itemsOf, itemsBy, accountFrom, account}
+use Rattle.account.specs.Joins.{OneOrigin}
 use Rattle.account.specs.Agree.{Share, NoneOf, Apart, NotesShare, Distinct, Plays, Agree, both-end, one-more}
 use Rattle.account.proofs.DataLaws.{Columns}
 use Rattle.account.proofs.LineLaws.{pathsIn}
@@ -171,6 +172,7 @@ module _ (h : List Bool) (recs : ℕ → Rec) where
           → ((row : List Spine) → At h recs (suc n) row → Follows recs (suc n) (length row) rs → Sound (suc n) (x .number) (takenFrom row rs))
           → Sound n k (whereNext o one)
       onward (next after) e g later = (l, at, later after g (follows-next h recs (s ∷ row) after at g f))
+      onward (mixed c) e g later = tt
       onward (voiceless p) e g later = tt
       onward (wide w) e g later = tt
 
@@ -220,11 +222,10 @@ module _ (h : List Bool) (recs : ℕ → Rec) where
 
 -- ---- the whole text
 
-records-distinct : (rs : List Numbered) → Rising 0 rs → Distinct (accountIn rs)
-unfolding readTo columns takenFrom accountFrom
-records-distinct [] u = tt
-records-distinct (x ∷ rs) (l, i, u) =
-    account-distinct h recs (takenFrom (headerRow h) rs) 0 (x .number) 0 false (taken-sound h recs rs 0 (x .number) (headerRow h) refl follows u)
+-- the taken records behind a header
+records-sound : (x : Numbered) (rs : List Numbered) → Rising (x .number) rs → Sound (headerIn (x ∷ rs)) (pathsIn (x ∷ rs)) 0 (x .number) (takenFrom (headerRow (headerIn (x ∷ rs))) rs)
+unfolding readTo columns
+records-sound x rs u = taken-sound h recs rs 0 (x .number) (headerRow h) refl follows u
   where
     h : List Bool
     h = headerIn (x ∷ rs)
@@ -239,10 +240,43 @@ records-distinct (x ∷ rs) (l, i, u) =
           ap recs z ∙ ap (λ (w : ℕ). getD (pathsFrom w rs) j (plain 0)) (sym (demand h recs .size 0 (headerRow h) refl));
     }
 
+records-distinct : (rs : List Numbered) → Rising 0 rs → Distinct (accountIn rs)
+unfolding takenFrom accountFrom
+records-distinct [] u = tt
+records-distinct (x ∷ rs) (l, i, u) =
+    account-distinct (headerIn (x ∷ rs)) (pathsIn (x ∷ rs)) (takenFrom (headerRow (headerIn (x ∷ rs))) rs) 0 (x .number) 0 false (records-sound x rs u)
+
 -- "Notes of one record never share part and voice."
 pub never-share : (text : List ℕ) → Distinct (account text)
 unfolding account takenOf pathsOf recordsOf
 never-share text = records-distinct (recordsFrom 0 (linesOf text)) (rising 0 0 (linesOf text) (omega arith))
+
+-- ---- the traces of an accepted text
+
+-- the row under which the m-th of some taken records stands
+sound-at : (h : List Bool) (recs : ℕ → Rec) (ts : List Taken) (n k m : ℕ) → Sound h recs n k ts → m < length ts → (row : List Spine) × At h recs (n + m) row
+sound-at h recs [] n k m u l = absurd (omega arith)
+sound-at h recs (t ∷ ts) n k zero (a, at, u) l = let z : n + 0 ≡ n = omega arith in (t .row, rw z at)
+sound-at h recs (t ∷ ts) n k (suc m) (a, at, u) l = let z : n + suc m ≡ suc n + m = omega arith in rw z (sound-at h recs ts (suc n) (t .number) m u (omega arith))
+
+abbrev takenIn : List Numbered → List Taken
+takenIn rs = takenFrom (headerRow (headerIn rs)) (laterIn rs)
+
+records-at : (rs : List Numbered) → Rising 0 rs → (n : ℕ) → n < length (takenIn rs) → (row : List Spine) × At (headerIn rs) (pathsIn rs) n row
+unfolding takenFrom
+records-at [] u n l = absurd (omega arith)
+records-at (x ∷ rs) (a, i, u) n l =
+    let z : 0 + n ≡ n = omega arith in
+    rw z at (sound-at (headerIn (x ∷ rs)) (pathsIn (x ∷ rs)) (takenIn (x ∷ rs)) 0 (x .number) n (records-sound x rs u) l)
+
+-- "an accepted trace ends in the same part, or outside kern, whichever line of a join it follows"
+pub one-origin : (text : List ℕ) → OneOrigin text
+unfolding takenOf pathsOf recordsOf
+one-origin text = record {
+  ends = λ n l j e m.
+      let r : (row : List Spine) × At (headerOf text) (pathsOf text) n row = records-at (recordsFrom 0 (linesOf text)) (rising 0 0 (linesOf text) (omega arith)) n l in
+      demand (headerOf text) (pathsOf text) .one-origin n (r .0) (r .1) j e m;
+}
 
 -- ---- the NOTEs of an accepted text
 

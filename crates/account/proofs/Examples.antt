@@ -7,7 +7,8 @@ use Rattle.slices.specs.Compare.{beginsWith, sameBytes}
 use Rattle.slices.specs.Split.{join, split, pieces, indexOf}
 use Rattle.lines.specs.Lines.{keep, withoutCRs, kindOf}
 use Rattle.lines.specs.Tokens.{isNull, isKern, isStar, isEmpty}
-use Rattle.paths.specs.Row.{branchFrom, advance}
+use Rattle.paths.specs.Joins.{strays, mixedFrom}
+use Rattle.paths.specs.Row.{partAt, branchFrom, advance}
 use Rattle.paths.specs.Text.{headerFrom}
 use Rattle.paths.specs.Token.{pathToken}
 use Rattle.paths.specs.Trace.{exchangesRight, exchangesLeft, followsJoin, givesOf, gives, before, width, sourceOf, source, lookBack, origin, originIn, trace, kernsBefore, headerPart, part}
@@ -32,7 +33,7 @@ shown [] = []
 shown (i ∷ is) = i .part ∷ i .voice ∷ i .bar ∷ i .line ∷ i .column ∷ i .length .numerator ∷ i .length .denominator ∷ shown is
 
 unfoldable pub accounted : List ℕ → List ℕ
-unfolding bind headD beginsWith sameBytes join split pieces indexOf keep withoutCRs kindOf isNull isKern isStar isEmpty branchFrom advance headerFrom pathToken exchangesRight exchangesLeft followsJoin givesOf gives before width sourceOf source lookBack origin originIn trace kernsBefore headerPart part holds lowest withVoice giveVoices voiceRow stepRow recordOf each isOrdinary isBar identicalBars repairOf repairBy questions digits numberFrom numberOf exponentOf gcdIn writtenAt written counts durationOf decimal reciprocalLength added dotted within lowerCase upperCase lowerPitch upperPitch pitchOf alteredBy signs twosComplement isLetter joins into runs itemOf itemsOf more first nextItem digitsIn firstDigits hasValue isNote accountLength badLength upToBlank firstSub isSilent givenIn marks countOf dotsOf restOf anyOf graceBy graceFrom heard passes contains trimStart onlySigns isBare leading forbids offerOf peersFrom allOffer uniform recordsFrom recordsOf pathsFrom pathsOf takenFrom takenOf kernColumns inferredOf itemsFrom itemsOf-account accountFrom account
+unfolding bind headD beginsWith sameBytes join split pieces indexOf keep withoutCRs kindOf isNull isKern isStar isEmpty branchFrom partAt strays mixedFrom advance headerFrom pathToken exchangesRight exchangesLeft followsJoin givesOf gives before width sourceOf source lookBack origin originIn trace kernsBefore headerPart part holds lowest withVoice giveVoices voiceRow stepRow recordOf each isOrdinary isBar identicalBars repairOf repairBy questions digits numberFrom numberOf exponentOf gcdIn writtenAt written counts durationOf decimal reciprocalLength added dotted within lowerCase upperCase lowerPitch upperPitch pitchOf alteredBy signs twosComplement isLetter joins into runs itemOf itemsOf more first nextItem digitsIn firstDigits hasValue isNote accountLength badLength upToBlank firstSub isSilent givenIn marks countOf dotsOf restOf anyOf graceBy graceFrom heard passes contains trimStart onlySigns isBare leading forbids offerOf peersFrom allOffer uniform recordsFrom recordsOf pathsFrom pathsOf takenFrom takenOf kernColumns inferredOf itemsFrom itemsOf-account accountFrom account
 accounted t = shown (account t)
 
 unfoldable pub table : List Example

@@ -18,7 +18,7 @@ use Rattle.paths.specs.Demand.{At}
 use Rattle.paths.specs.Text.{reading}
 use Rattle.paths.specs.Token.{pathToken}
 use Rattle.paths.specs.Trace.{part}
-use Rattle.paths.specs.Voices.{Outcome, next, voiceless, wide, stepRow}
+use Rattle.paths.specs.Voices.{Outcome, next, mixed, voiceless, wide, stepRow}
 use Rattle.repair.specs.Repair.{repaired, repairedOf}
 use Rattle.repair.specs.declared.Repair.{Repair}
 use Rattle.repair.specs.declared.Repaired.{Repaired}
@@ -137,6 +137,7 @@ module _ (h : List Bool) (recs : ℕ → Rec) where
 
       go : (o : Outcome) → toRow k c o ≡ ends r → ⊥
       go (next row) e = clash cc
+      go (mixed c) e = clash cc
       go (voiceless p) e = clash cc
       go (wide w) e = clash cc
   never-ends Bar n k st at size us r e = clash cc
@@ -166,6 +167,7 @@ module _ (h : List Bool) (recs : ℕ → Rec) where
           noted-is = a .noted ∙ or-false (anyNoted (st .parts));
           size-is = a .size;
         })
+        go (mixed c) o f = clash cc
         go (voiceless p) o f = clash cc
         go (wide w) o f = clash cc
 

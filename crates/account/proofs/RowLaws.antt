@@ -16,9 +16,9 @@ use Rattle.lines.specs.Tokens.{tokensOf, isStar}
 use Rattle.lines.specs.declared.Kind.{Kind}
 use Rattle.lines.specs.declared.Kind.the-variants.{Empty, Reference, Comment, Star, Bar, Data}
 use Rattle.paths.specs.Record.{Rec, star, plain, tokens}
-use Rattle.paths.specs.Row.{Spine, line, branch, outside}
+use Rattle.paths.specs.Row.{Spine, line, branch, outside, partOf, spineAt}
 use Rattle.paths.specs.Demand.{At}
-use Rattle.paths.specs.Text.{reading, readRecord, takeRecord, readTo, partOf, spineAt}
+use Rattle.paths.specs.Text.{reading, readRecord, takeRecord, readTo}
 use Rattle.paths.specs.Token.{pathToken}
 use Rattle.paths.specs.Trace.{trace, kernsBefore, headerPart, part, columns, widthIn}
 use Rattle.paths.proofs.Demand.{demand}

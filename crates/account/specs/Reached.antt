@@ -13,7 +13,7 @@ use Rattle.utf8.specs.Utf8.{utf8Length}
 use Rattle.repair.specs.Repair.{repairedOf}
 use Rattle.repair.specs.declared.Repair.{Repair}
 use Rattle.repair.specs.declared.Repaired.the-variants.{Even}
-use Rattle.paths.specs.Trace.{lines, FirstWithout}
+use Rattle.paths.specs.Trace.{lines, FirstWithout, Unmixed, FirstMixed}
 use Rattle.reading.specs.State.{State, Step, refused, goes, ends, start}
 use Rattle.reading.specs.Records.{readLine, isRecord}
 use Rattle.reading.specs.Text.{refusal, readText}
@@ -52,11 +52,20 @@ pub record ReachedStar (text : List ℕ) (before : List (List ℕ)) (here : List
 abbrev pub laterAmong : List (List ℕ) → ℕ
 laterAmong ls = length (laterIn (recordsFrom 0 ls))
 
--- "is refused with 8 exactly when a part would hold over four lines", with the line and the part of the first that finds no voice
+-- request E5: "17, put after 7 and before 8, a run of `*v` mixes origins; figure the first such run's first column, from 1"
+pub record Question-17 (text : List ℕ) : Type 0 where
+  pub exactly : (before rest : List (List ℕ)) (here : List ℕ) → ReachedStar text before here rest → (f : ℕ) →
+      (readText text ≡ refusal 17 (length before + 1) f) ↔ FirstMixed (headerOf text) (pathsOf text) (laterAmong before) f
+  -- no other record is refused with 17
+  pub only : (k f : ℕ) → readText text ≡ refusal 17 k f →
+      (before : List (List ℕ)) × (here : List ℕ) × (rest : List (List ℕ)) × ReachedStar text before here rest × (k ≡ length before + 1)
+
+-- "stopped by no earlier question, is refused with 8 exactly when a part would hold over four lines", with the line and the part of the first that finds
+-- no voice
 pub record Question-8 (text : List ℕ) : Type 0 where
-  pub exactly : (before rest : List (List ℕ)) (here : List ℕ) → ReachedStar text before here rest →
+  pub exactly : (before rest : List (List ℕ)) (here : List ℕ) → ReachedStar text before here rest → Unmixed (headerOf text) (pathsOf text) (laterAmong before) →
       ((q : ℕ) × (readText text ≡ refusal 8 (length before + 1) q)) ↔ ((p : ℕ) × (4 < lines (headerOf text) (pathsOf text) (suc (laterAmong before)) p))
   -- no other record is refused with 8
   pub only : (k q : ℕ) → readText text ≡ refusal 8 k q →
       (before : List (List ℕ)) × (here : List ℕ) × (rest : List (List ℕ)) × ReachedStar text before here rest × (k ≡ length before + 1)
-      × FirstWithout (headerOf text) (pathsOf text) (laterAmong before) q
+      × Unmixed (headerOf text) (pathsOf text) (laterAmong before) × FirstWithout (headerOf text) (pathsOf text) (laterAmong before) q

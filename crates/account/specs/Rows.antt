@@ -12,7 +12,7 @@ use Rattle.paths.specs.Row.{Spine}
 use Rattle.paths.specs.Text.{headerRow}
 use Rattle.paths.specs.Token.{pathToken}
 use Rattle.paths.specs.Trace.{widthIn}
-use Rattle.paths.specs.Voices.{Outcome, next, voiceless, wide, stepRow}
+use Rattle.paths.specs.Voices.{Outcome, next, mixed, voiceless, wide, stepRow}
 use Rattle.repair.specs.Record.{recordOf}
 use Rattle.repair.specs.Repair.{repaired, repairedOf}
 use Rattle.repair.specs.declared.Repaired.{Repaired}
@@ -84,6 +84,7 @@ rowAfter Data ts row = next row
 
 abbrev pub whereNext : Outcome → (List Spine → List Taken) → List Taken
 whereNext (next row) rest = rest row
+whereNext (mixed c) rest = []
 whereNext (voiceless p) rest = []
 whereNext (wide n) rest = []
 

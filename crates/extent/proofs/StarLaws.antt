@@ -10,7 +10,7 @@ use Rattle.paths.specs.declared.PathToken.{PathToken}
 use Rattle.paths.specs.declared.PathToken.the-variants.{Split, Join, Exchange, End, Add, Other}
 use Rattle.paths.specs.Token.{pathToken}
 use Rattle.paths.specs.Row.{Spine, line, branch, outside}
-use Rattle.paths.specs.Voices.{Outcome, next, voiceless, wide, stepRow}
+use Rattle.paths.specs.Voices.{Outcome, next, mixed, voiceless, wide, stepRow}
 use Rattle.reading.specs.State.{Part, State, Result, partAt, withPart}
 use Rattle.reading.specs.Notices.{Token, spanOfToken, quiet}
 use Rattle.reading.specs.Star.{applied, interpret, columnBy, paired, readColumns, toRow, readStar}
@@ -57,6 +57,7 @@ columns-hold {b} {n} ps k i (s ∷ row) (t ∷ ts) st h =
 
 row-holds : {b : ℕ} (n k : ℕ) (r : Result) (o : Outcome) → After b n r → Passes b n (toRow k r o)
 row-holds n k r (next row) h = h
+row-holds n k r (mixed c) h = tt
 row-holds n k r (voiceless p) h = tt
 row-holds n k r (wide m) h = tt
 

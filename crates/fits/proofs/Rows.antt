@@ -12,8 +12,10 @@ use Rattle.sheet.specs.Fits.{All, u8}
 use Rattle.paths.specs.declared.PathToken.{PathToken}
 use Rattle.paths.specs.declared.PathToken.the-variants.{Split, Join, Exchange, End, Add, Other}
 use Rattle.paths.specs.Token.{isExchange, isJoin}
-use Rattle.paths.specs.Row.{Spine, line, branch, outside, branchFrom, advance, nextRow}
-use Rattle.paths.specs.Voices.{holds, lowest, withVoice, Outcome, next, voiceless, wide, ahead, settle, giveVoices, voiceRow, narrow, stepRow}
+use Rattle.paths.specs.Joins.{mixedRun}
+use Rattle.paths.specs.Row.{Spine, line, branch, outside, branchFrom, partAt, advance, nextRow}
+use Rattle.paths.specs.Voices.{holds, lowest, withVoice, Outcome, next, mixed, voiceless, wide, ahead, settle, giveVoices, voiceRow, narrow, stepRow}
+use Rattle.paths.proofs.StepLaws.{unmixed-holds}
 use Rattle.paths.specs.Text.{headerFrom}
 
 abbrev pub SpineFits : Spine → Type 0
@@ -76,11 +78,13 @@ lowest-fits held = go (held 0) (held 1) (held 2) (held 3)
 
 abbrev RowFits : Outcome → Type 0
 RowFits (next row) = All SpineFits row
+RowFits (mixed c) = Unit {0}
 RowFits (voiceless p) = Unit {0}
 RowFits (wide n) = Unit {0}
 
 ahead-fits : (s : Spine) (o : Outcome) → SpineFits s → RowFits o → RowFits (ahead s o)
 ahead-fits s (next row) h k = (h, k)
+ahead-fits s (mixed c) h k = tt
 ahead-fits s (voiceless p) h k = tt
 ahead-fits s (wide n) h k = tt
 
@@ -104,6 +108,7 @@ pub record Room (row : List Spine) : Type 0 where
 
 abbrev pub NextFits : Outcome → Type 0
 NextFits (next row) = Room row
+NextFits (mixed c) = Unit {0}
 NextFits (voiceless p) = Unit {0}
 NextFits (wide n) = Unit {0}
 
@@ -113,14 +118,16 @@ narrow-fits (next row) h = go (leb (length row) 256) refl
     go : (t : Bool) → leb (length row) 256 ≡ t → NextFits (cond t (next row) (wide (length row)))
     go true e = record { spines = h; few = leb-true (length row) 256 e }
     go false e = tt
+narrow-fits (mixed c) h = tt
 narrow-fits (voiceless p) h = tt
 narrow-fits (wide n) h = tt
 
 pub step-fits : (row : List Spine) (ts : List PathToken) → All SpineFits row → NextFits (stepRow row ts)
 unfolding stepRow voiceRow
 step-fits row ts h =
-    narrow-fits (giveVoices (holds (nextRow ts row)) (nextRow ts row))
-    (voices-fit (holds (nextRow ts row)) (nextRow ts row) (advanced branchFrom outside SpineFits branch-fits tt ts row h))
+    unmixed-holds NextFits (mixedRun (partAt row) ts) (narrow (voiceRow (nextRow ts row))) (λ (c : ℕ). tt)
+    (narrow-fits (giveVoices (holds (nextRow ts row)) (nextRow ts row))
+    (voices-fit (holds (nextRow ts row)) (nextRow ts row) (advanced branchFrom outside SpineFits branch-fits tt ts row h)))
 
 -- ---- the header
 

@@ -17,7 +17,7 @@ use Rattle.paths.specs.declared.PathToken.{PathToken}
 use Rattle.paths.specs.declared.PathToken.the-variants.{Split, Join, Exchange, End, Add, Other}
 use Rattle.paths.specs.Token.{pathToken}
 use Rattle.paths.specs.Row.{Spine, line, branch, outside}
-use Rattle.paths.specs.Voices.{Outcome, next, voiceless, wide, stepRow}
+use Rattle.paths.specs.Voices.{Outcome, next, mixed, voiceless, wide, stepRow}
 use Rattle.reading.specs.State.{Part, State, Result, partAt}
 use Rattle.reading.specs.Notices.{Token, spanOfToken}
 use Rattle.reading.specs.Star.{withClef, withKey, withMeter, withSymbol, withBarTempo, withMode, barring, nameSpan, applied, interpret, columnBy, paired, readColumns, toRow, readStar}
@@ -233,6 +233,7 @@ to-row k (next row) f h = let g = f .state in going (record {
   };
   records = f .records;
 })
+to-row k (mixed c) f h = refuses
 to-row k (voiceless p) f h = refuses
 to-row k (wide m) f h = refuses
 

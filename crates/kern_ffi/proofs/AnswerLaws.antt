@@ -9,20 +9,20 @@ use lib.ListN.{length, getD, set}
 use borrow.Author.Tests.{leb-true}
 use Rattle.sheet.specs.Record.{Record}
 use Rattle.reading.specs.Text.{Answer, refusal, accepted, readText, sheetBytes, answered, answerOf, bufferOf}
-use Rattle.account.specs.Reached.{Question-8}
 use Rattle.demand.specs.Played.{Played}
 use Rattle.demand.proofs.PlayedLaws.{played}
-use Rattle.demand.proofs.NumberLaws.{refusal-number}
+use Rattle.demand.proofs.NumberLaws.{refusal-number, refusal-small, refusal-not-13}
 use Rattle.extent.proofs.TextLaws.{sheet-length}
 use Rattle.reader.specs.Answer.{numbersOf}
+use Rattle.reader.proofs.AnswerLaws.{Stopped}
 use Rattle.reader.specs.declared.Answer.{Answer as Answered}
 use Rattle.reader.specs.declared.Answer.the-variants.{Refused, Accepted}
 use Rattle.kern_ffi.specs.Answer.{numberOf, figureOf, threeOf}
 use Rattle.reader.proofs.AnswerLaws.{sheet-long}
 
--- a refusal has a number from 1 to 13, an acceptance 0
+-- a refusal has a number from 1 to 17, an acceptance 0
 abbrev Tells : List ℕ → List ℕ → ℕ × ℕ × ℕ → Type 0
-Tells text old a = (numberOf a ≤ 13) × ((numberOf a ≡ 0 → Played text (bufferOf text old)) × (numberOf a ≡ 13 → figureOf a < 2 ^ 32))
+Tells text old a = (numberOf a ≤ 17) × ((numberOf a ≡ 0 → Played text (bufferOf text old)) × (numberOf a ≡ 13 → figureOf a < 2 ^ 32))
 
 module _ (text old : List ℕ) (bytes : (i : ℕ) → getD text i 0 < 2 ^ 8) where
   tells-room : (parts notes : ℕ) (rs : List Record) → readText text ≡ accepted parts notes rs → (t : Bool)
@@ -39,8 +39,7 @@ module _ (text old : List ℕ) (bytes : (i : ℕ) → getD text i 0 < 2 ^ 8) whe
 
   tells-of : (a : Answer) → readText text ≡ a → Tells text old (answered a (length old))
   tells-of (refusal n l f) e =
-      let few = refusal-number text n l f e in
-      (omega (arith, few .1), (λ z. absurd (omega (arith, few .0)), λ z. absurd (omega (arith, few .1))))
+      (refusal-small text n l f e, (λ z. absurd (omega (arith, refusal-number text n l f e .0)), λ z. absurd (refusal-not-13 text n l f e z)))
   tells-of (accepted parts notes rs) e = tells-room parts notes rs e (leb (length (sheetBytes parts notes rs)) (length old)) refl
 
   tells : Tells text old (answerOf text old)
@@ -48,7 +47,7 @@ module _ (text old : List ℕ) (bytes : (i : ℕ) → getD text i 0 < 2 ^ 8) whe
   tells = tells-of (readText text) refl
 
 -- the number has room in a register
-pub number-small : (text old : List ℕ) → ((i : ℕ) → getD text i 0 < 2 ^ 8) → {r : Answered} {n l f : ℕ} → numbersOf r ≡ answerOf text old → r ≡ Refused n l f → n ≤ 13
+pub number-small : (text old : List ℕ) → ((i : ℕ) → getD text i 0 < 2 ^ 8) → {r : Answered} {n l f : ℕ} → numbersOf r ≡ answerOf text old → r ≡ Refused n l f → n ≤ 17
 number-small text old bytes {r} {n} {l} {f} e is =
     let same : (n, l, f) ≡ answerOf text old = ap numbersOf (sym is) ∙ e in
     omega (arith, tells text old bytes .0, ap numberOf same)
@@ -59,10 +58,10 @@ Answers text old now-out three r =
     (r ≡ numberOf (answerOf text old))
     × ((three ≡ threeOf (answerOf text old))
     × ((now-out ≡ bufferOf text old)
-    × ((r ≡ 0 → Played text now-out) × ((r ≡ 13 → figureOf (answerOf text old) < 2 ^ 32) × Question-8 text))))
+    × ((r ≡ 0 → Played text now-out) × ((r ≡ 13 → figureOf (answerOf text old) < 2 ^ 32) × Stopped text))))
 
 pub answers : (text old now-out three : List ℕ) → ((i : ℕ) → getD text i 0 < 2 ^ 8) → {n l f : ℕ} → (n, l, f) ≡ answerOf text old → three ≡ n ∷ l ∷ f ∷ []
-    → now-out ≡ bufferOf text old → Question-8 text → Answers text old now-out three n
+    → now-out ≡ bufferOf text old → Stopped text → Answers text old now-out three n
 answers text old now-out three bytes {n} {l} {f} e t b q =
     let said = tells text old bytes in (
       ap numberOf e,

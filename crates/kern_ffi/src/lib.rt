@@ -8,7 +8,8 @@ ghost use Prim.Native.Nat.{_<_, _^_};
 ghost use lib.ListN.{length};
 ghost use Rattle.slices.specs.Store.{stored};
 ghost use Rattle.reading.specs.Text.{answerOf, bufferOf};
-ghost use Rattle.account.specs.Reached.{Question-8};
+ghost use Rattle.account.specs.Joins.{OneOrigin};
+ghost use Rattle.account.specs.Reached.{Question-8, Question-17};
 ghost use Rattle.demand.specs.Played.{Played};
 ghost use Rattle.notice.specs.Table.{codeOf, reasonOf};
 ghost use Rattle.names.specs.Names.{fallbackNames, nameOf};
@@ -34,6 +35,8 @@ pub extern "C" fn kern_read(text: &[u8], out: &mut [u8], answer: &mut [u64; 3]) 
     ensures played { λ r. ⌜ (r ≡ 0 → Played (now (text .entry)) (now (out .exit))) ⌝ }
     ensures needed { λ r. ⌜ (r ≡ 13 → figureOf (answerOf (now (text .entry)) (now (out .entry))) < 2 ^ 32) ⌝ }
     ensures stopped { λ _. ⌜ Question-8 (now (text .entry)) ⌝ }
+    ensures joined { λ _. ⌜ Question-17 (now (text .entry)) ⌝ }
+    ensures traced { λ _. ⌜ OneOrigin (now (text .entry)) ⌝ }
 {
     match reader::read(text, out) {
         Answer::Refused {

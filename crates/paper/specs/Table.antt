@@ -16,7 +16,7 @@ use Rattle.token.specs.declared.outcome.Outcome.the-variants.{Silent, Unread, H
 use Rattle.paths.specs.declared.PathToken.{PathToken}
 use Rattle.paths.specs.Token.{pathToken}
 use Rattle.paths.specs.Row.{Spine, line, branch, outside}
-use Rattle.paths.specs.Voices.{Outcome, next, voiceless, wide, stepRow}
+use Rattle.paths.specs.Voices.{Outcome, next, mixed, voiceless, wide, stepRow}
 use Rattle.notation.specs.Beam.{beamed, beamNumber, lettersOf}
 use Rattle.notation.specs.declared.beam.Beamed.{Beamed}
 use Rattle.interpretation.specs.Interpretation.{interpretationOf}
@@ -61,6 +61,7 @@ ofSpine outside = 5
 
 abbrev ofOutcome : Outcome → List ℕ
 ofOutcome (next row) = map ofSpine row
+ofOutcome (mixed c) = 17 ∷ c ∷ []
 ofOutcome (voiceless p) = 8 ∷ p ∷ []
 ofOutcome (wide n) = 9 ∷ n ∷ []
 

@@ -8,8 +8,7 @@ use native.Mathlib.Omega.{arith}
 use native.Mathlib.Decide.{ℕ-discrete, decLe}
 use lib.Dec.{leb}
 use Rattle.slices.proofs.TestLaws.{clash}
-use Rattle.paths.specs.Row.{Spine, line, branch, outside}
-use Rattle.paths.specs.Text.{spineAt}
+use Rattle.paths.specs.Row.{Spine, line, branch, outside, spineAt}
 use Rattle.paths.specs.Voices.{withVoice}
 use Rattle.paths.proofs.Counts.{same, same-yes, same-no, bit, total, at, ofLine, ofPart, low-bit, four-at, four-total, total-four}
 use Rattle.paths.proofs.VoiceLaws.{LowestIs, Voiced, Lacks, plus, Fair, fair-line, fair-outside, fair-counts, fair-free, fair-branch, Kept, voiced-at}

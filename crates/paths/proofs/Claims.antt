@@ -13,16 +13,15 @@ use borrow.Author.Tests.{le-leb, lt-ltb}
 use Rattle.slices.proofs.TestLaws.{clash}
 use Rattle.paths.specs.declared.PathToken.{PathToken}
 use Rattle.paths.specs.Record.{Rec, star}
-use Rattle.paths.specs.Row.{Spine, line, branch, outside, branchFrom, nextRow}
+use Rattle.paths.specs.Row.{Spine, line, branch, outside, branchFrom, nextRow, partOf, spineAt, partAt}
 use Rattle.paths.specs.Voices.{holds}
 use Rattle.paths.specs.Trace.{Origin, from, branchOf, nowhere, origin, originIn, columnOf, part, columns, width, count, isPart, isLine, lines, precedes, rivals, FirstWithout}
-use Rattle.paths.specs.Text.{partOf, spineAt}
 use Rattle.paths.specs.Demand.{At}
 use Rattle.paths.proofs.Counts.{same, same-yes, bit, total, total-at, two-at, at, ofBranch, ofPart, high}
 use Rattle.paths.proofs.Origins.{pick}
 use Rattle.paths.proofs.VoiceLaws.{Sound, Kept, Lacks}
 use Rattle.paths.proofs.Branches.{Had, Gets, branch-gets, sum, FirstLacks, first-lacks, rivalsIn, rivals-less}
-use Rattle.paths.proofs.StepLaws.{partAt, next-at, next-part, next-length, next-fair, Gives, gives-at, gives-four, gives-length}
+use Rattle.paths.proofs.StepLaws.{next-at, next-part, next-length, next-fair, Gives, gives-at, gives-four, gives-length}
 use Rattle.paths.proofs.TextLaws.{Held, row-held, part-suc, bind-ext}
 use Rattle.paths.proofs.Columns.{count-ext, part-count, isRival, rival-count, pick-rival}
 

@@ -8,8 +8,9 @@ use lib.ListN.{replicate}
 use Rattle.paths.specs.declared.PathToken.{PathToken}
 use Rattle.paths.specs.declared.PathToken.the-variants.{Split, Join, Exchange, End, Add, Other}
 use Rattle.paths.specs.Record.{Rec, star, plain}
-use Rattle.paths.specs.Row.{Spine, line, outside, branchFrom, advance}
-use Rattle.paths.specs.Voices.{Outcome, next, voiceless, wide, holds, lowest, withVoice, giveVoices, voiceRow, stepRow}
+use Rattle.paths.specs.Row.{Spine, line, outside, branchFrom, advance, partAt}
+use Rattle.paths.specs.Joins.{strays, mixedFrom}
+use Rattle.paths.specs.Voices.{Outcome, next, mixed, voiceless, wide, holds, lowest, withVoice, giveVoices, voiceRow, stepRow}
 use Rattle.paths.specs.Trace.{from, branchOf, nowhere, exchangesRight, exchangesLeft, followsJoin, givesOf, gives, before, width, sourceOf, source, lookBack, origin, originIn, trace, kernsBefore, headerPart, part}
 use Rattle.paths.specs.Text.{headerFrom, reached, ended, refused, takeRecord, readTo}
 
@@ -45,11 +46,17 @@ examples =
     -- `*x` is paired from the left
     ∷ example (many 0 3) (Exchange ∷ Exchange ∷ Exchange ∷ []) (next (line 1 0 ∷ line 0 0 ∷ line 2 0 ∷ []))
     ∷ example (many 0 4) (Exchange ∷ Other ∷ Exchange ∷ Exchange ∷ []) (next (line 0 0 ∷ line 1 0 ∷ line 3 0 ∷ line 2 0 ∷ []))
-    -- a join keeps its first line, over two parts and over kern and outside; a lone `*v` passes
-    ∷ example (many 0 3) (Join ∷ Join ∷ Join ∷ []) (next (line 0 0 ∷ []))
-    ∷ example (line 0 0 ∷ outside ∷ line 1 0 ∷ []) (Join ∷ Join ∷ Other ∷ []) (next (line 0 0 ∷ line 1 0 ∷ []))
-    ∷ example (outside ∷ line 0 0 ∷ line 1 0 ∷ []) (Join ∷ Join ∷ Join ∷ []) (next (outside ∷ []))
+    -- a join keeps its first line, of one part or outside kern; a lone `*v` passes
+    ∷ example (four 0) (Other ∷ Join ∷ Join ∷ Join ∷ []) (next (line 0 0 ∷ line 0 1 ∷ []))
+    ∷ example (outside ∷ outside ∷ line 0 0 ∷ []) (Join ∷ Join ∷ Other ∷ []) (next (outside ∷ line 0 0 ∷ []))
     ∷ example (many 0 2) (Join ∷ Other ∷ []) (next (many 0 2))
+    -- over two parts, or over kern and outside: 17 with the first such run's first column, from 1
+    ∷ example (line 0 0 ∷ line 0 1 ∷ line 1 0 ∷ []) (Join ∷ Join ∷ Join ∷ []) (mixed 1)
+    ∷ example (line 0 0 ∷ outside ∷ line 1 0 ∷ []) (Join ∷ Join ∷ Other ∷ []) (mixed 1)
+    ∷ example (line 0 0 ∷ outside ∷ line 0 1 ∷ []) (Other ∷ Join ∷ Join ∷ []) (mixed 2)
+    ∷ example (line 0 0 ∷ line 0 1 ∷ many 1 5) (Join ∷ Join ∷ Other ∷ Join ∷ Join ∷ Join ∷ Other ∷ []) (mixed 4)
+    -- 17 comes before 8
+    ∷ example (four 0 ++ many 1 2) (Split ∷ Other ∷ Other ∷ Other ∷ Join ∷ Join ∷ []) (mixed 5)
     -- outside kern a branch needs no voice, and `*+` adds there
     ∷ example (outside ∷ line 0 0 ∷ []) (Split ∷ Add ∷ []) (next (outside ∷ outside ∷ line 0 0 ∷ outside ∷ []))
     -- two parts of four lines, crossed: the figure of 8 is the part of the first branch
@@ -60,7 +67,7 @@ examples =
     ∷ []
 
 outcomes : map (λ (e : Example). stepRow (e .row) (e .tokens)) examples ≡ map (λ (e : Example). e .outcome) examples
-unfolding examples example four many stepRow voiceRow giveVoices holds lowest withVoice advance branchFrom
+unfolding examples example four many partAt strays mixedFrom stepRow voiceRow giveVoices holds lowest withVoice advance branchFrom
 outcomes = refl
 
 -- ---- a text: three columns, of which the second is outside kern, and its records
@@ -87,7 +94,7 @@ readings : map (readTo header crossing) (0 ∷ 1 ∷ 2 ∷ 3 ∷ 4 ∷ 5 ∷ 6 �
     ∷ ended
     ∷ ended
     ∷ []
-unfolding readTo takeRecord headerFrom header crossing stepRow voiceRow giveVoices holds lowest withVoice advance branchFrom
+unfolding readTo takeRecord headerFrom header crossing partAt strays mixedFrom stepRow voiceRow giveVoices holds lowest withVoice advance branchFrom
 readings = refl
 
 uneven : map (readTo header (λ n. plain 2)) (1 ∷ 2 ∷ []) ≡ refused 6 2 ∷ refused 6 2 ∷ []

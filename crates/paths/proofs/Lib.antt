@@ -7,8 +7,10 @@ pub mod Origins
 pub mod TraceLaws
 pub mod VoiceLaws
 pub mod Branches
+pub mod JoinLaws
 pub mod StepLaws
 pub mod TextLaws
+pub mod MixLaws
 pub mod Columns
 pub mod Claims
 pub mod Demand

@@ -2,7 +2,7 @@
 use mathlib.Core.Path.{_≡_, refl, sym, ap, _∙_, subst}
 use mathlib.Core.Bool.{Bool, true, false, cond}
 use mathlib.Core.List.{List, [], _∷_}
-use mathlib.Core.Option.{Option, bind}
+use mathlib.Core.Option.{Option, none, some, bind}
 use mathlib.Core.Logic.{_≢_, _⊎_, inl, inr}
 use Prim.Native.Nat.{ℕ, _+_, _≤_, _<_}
 use native.Mathlib.Omega.{arith}
@@ -11,10 +11,11 @@ use lib.ListN.{length, getD, length-map, List·getD-map}
 use borrow.Author.Tests.{eqb-true, eqb-false, leb-true, leb-false}
 use Rattle.paths.specs.declared.PathToken.{PathToken}
 use Rattle.paths.specs.Record.{Rec, star, plain, tokens}
-use Rattle.paths.specs.Row.{Spine, line, branch, outside, branchFrom, nextRow}
-use Rattle.paths.specs.Voices.{holds, Outcome, next, voiceless, wide, giveVoices, voiceRow, narrow, stepRow}
+use Rattle.paths.specs.Row.{Spine, line, branch, outside, branchFrom, nextRow, partOf, spineAt, partAt}
+use Rattle.paths.specs.Joins.{mixedRun}
+use Rattle.paths.specs.Voices.{holds, Outcome, next, mixed, voiceless, wide, giveVoices, voiceRow, narrow, unmixed, stepRow}
 use Rattle.paths.specs.Trace.{Origin, from, branchOf, nowhere, origin, originIn, columnOf, width, widthIn}
-use Rattle.paths.specs.Text.{Reading, reached, ended, refused, reading, readRecord, takeRecord, partOf, spineAt}
+use Rattle.paths.specs.Text.{Reading, reached, ended, refused, reading, readRecord, takeRecord}
 use Rattle.paths.specs.Walk.{alone}
 use Rattle.paths.proofs.Counts.{total, at, ofPart, part-total, total-four, holds-total}
 use Rattle.paths.proofs.Shrink.{at-shrinks, high-shrinks}
@@ -36,10 +37,6 @@ unfolding branchFrom
 branch-part (line p v) = refl
 branch-part (branch p) = refl
 branch-part outside = refl
-
--- the part of column j
-unfoldable pub partAt : List Spine → ℕ → Option ℕ
-partAt row j = partOf (spineAt row j)
 
 pick-part : (row : List Spine) (o : Origin) → partOf (pick row o) ≡ bind (columnOf o) (partAt row)
 unfolding bind partAt
@@ -67,21 +64,32 @@ next-fair ts row s = record {
 abbrev pub Gives : List PathToken → List Spine → List Spine → Type 0
 Gives ts row r = Voiced (holds (nextRow ts row)) (nextRow ts row) r
 
+-- what holds of question 17 and of what comes after it holds of a star record
+pub unmixed-holds : (P : Outcome → Type 0) (m : Option ℕ) (o : Outcome) → ((c : ℕ) → P (mixed c)) → P o → P (unmixed m o)
+unmixed-holds P none o refuses later = later
+unmixed-holds P (some c) o refuses later = refuses (c + 1)
+
 abbrev pub StepIs : List PathToken → List Spine → Outcome → Type 0
 StepIs ts row (next r) = Gives ts row r × (length r ≤ 256)
+StepIs ts row (mixed f) = (c : ℕ) × (mixedRun (partAt row) ts ≡ some c) × (f ≡ c + 1)
 StepIs ts row (voiceless q) = Lacks (holds (nextRow ts row)) (nextRow ts row) q
 StepIs ts row (wide n) = (r : List Spine) × Gives ts row r × (n ≡ length r) × (256 < n)
 
 pub step-is : (ts : List PathToken) (row : List Spine) → StepIs ts row (stepRow row ts)
 unfolding stepRow voiceRow
-step-is ts row = go (giveVoices (holds (nextRow ts row)) (nextRow ts row)) (give-is (holds (nextRow ts row)) (nextRow ts row))
+step-is ts row = by-run (mixedRun (partAt row) ts) refl (narrow (giveVoices (holds (nextRow ts row)) (nextRow ts row))) (go (giveVoices (holds (nextRow ts row)) (nextRow ts row)) (give-is (holds (nextRow ts row)) (nextRow ts row)))
   where
+    by-run : (m : Option ℕ) → mixedRun (partAt row) ts ≡ m → (o : Outcome) → StepIs ts row o → StepIs ts row (unmixed m o)
+    by-run none e o k = k
+    by-run (some c) e o k = (c, e, refl)
+
     fits : (r : List Spine) (b : Bool) → leb (length r) 256 ≡ b → Gives ts row r → StepIs ts row (cond b (next r) (wide (length r)))
     fits r true e g = (g, leb-true (length r) 256 e)
     fits r false e g = (r, g, refl, leb-false (length r) 256 e)
 
     go : (o : Outcome) → GiveIs (holds (nextRow ts row)) (nextRow ts row) o → StepIs ts row (narrow o)
     go (next r) g = fits r (leb (length r) 256) refl g
+    go (mixed c) g = absurd g
     go (voiceless q) g = g
     go (wide n) g = absurd g
 
@@ -115,7 +123,7 @@ abbrev pub Takes : Rec → List Spine → List Spine → Type 0
 Takes (star ts) row r = Gives ts row r × (length r ≤ 256)
 Takes (plain k) row r = row ≡ r
 
--- 6, 8 or 9
+-- 6, 17, 8 or 9
 abbrev pub Refuses : Rec → List Spine → ℕ → ℕ → Type 0
 Refuses x row q f = ((tokens x ≢ length row) × (q ≡ 6) × (f ≡ tokens x)) ⊎ ((ts : List PathToken) × (x ≡ star ts) × (length ts ≡ length row) × ((o : Outcome) × StepIs ts row o × (reading o ≡ refused q f)))
 
@@ -131,6 +139,7 @@ record-is x (s ∷ row) = go (eqb (tokens x) (length (s ∷ row))) refl
   where
     out : (ts : List PathToken) → length ts ≡ length (s ∷ row) → (o : Outcome) → StepIs ts (s ∷ row) o → RecordIs (star ts) (s ∷ row) (reading o)
     out ts e (next r) k = (omega arith, e, k)
+    out ts e (mixed c) k = (omega arith, inr (ts, refl, e, (mixed c, k, refl)))
     out ts e (voiceless q) k = (omega arith, inr (ts, refl, e, (voiceless q, k, refl)))
     out ts e (wide n) k = (omega arith, inr (ts, refl, e, (wide n, k, refl)))
 

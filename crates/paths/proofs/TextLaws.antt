@@ -9,12 +9,12 @@ use native.Mathlib.Decide.{ℕ-discrete}
 use lib.ListN.{length, getD}
 use Rattle.slices.proofs.TestLaws.{clash}
 use Rattle.paths.specs.Record.{Rec}
-use Rattle.paths.specs.Row.{Spine, line}
+use Rattle.paths.specs.Row.{Spine, line, spineAt, partAt}
 use Rattle.paths.specs.Trace.{originIn, columnOf, trace, kernsBefore, headerPart, part, columns, widthIn}
-use Rattle.paths.specs.Text.{headerFrom, headerRow, Reading, reached, ended, refused, takeRecord, andThen, readTo, spineAt}
+use Rattle.paths.specs.Text.{headerFrom, headerRow, Reading, reached, ended, refused, takeRecord, andThen, readTo}
 use Rattle.paths.proofs.Counts.{same, same-no, same-le, total, at, ofBranch, high, low-bit}
 use Rattle.paths.proofs.VoiceLaws.{Sound}
-use Rattle.paths.proofs.StepLaws.{partAt, RecordIs, record-is, takes-sound, takes-part, takes-length}
+use Rattle.paths.proofs.StepLaws.{RecordIs, record-is, takes-sound, takes-part, takes-length}
 
 -- ---- the header
 
@@ -100,7 +100,7 @@ module _ (h : List Bool) (recs : ℕ → Rec) where
     pub parts : (j : ℕ) → partAt row j ≡ part h recs n j
     pub size : length row ≡ columns h recs n
 
-  part-zero : (j : ℕ) → part h recs 0 j ≡ headerPart h j
+  pub part-zero : (j : ℕ) → part h recs 0 j ≡ headerPart h j
   unfolding part trace bind
   part-zero j = refl
 

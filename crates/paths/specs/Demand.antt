@@ -4,14 +4,14 @@ use mathlib.Core.Path.{_≡_}
 use mathlib.Core.Bool.{Bool, true}
 use mathlib.Core.List.{List}
 use mathlib.Core.Logic.{_≢_, _↔_}
-use mathlib.Core.Option.{some}
+use mathlib.Core.Option.{Option, some, bind}
 use Prim.Native.Nat.{ℕ, suc, _≤_, _<_}
 use lib.ListN.{length}
 use Rattle.paths.specs.declared.PathToken.{PathToken}
 use Rattle.paths.specs.Record.{Rec, star, plain, tokens}
-use Rattle.paths.specs.Row.{Spine, line, branch}
-use Rattle.paths.specs.Trace.{from, branchOf, originIn, columns, part, lines, precedes, FirstWithout}
-use Rattle.paths.specs.Text.{reached, ended, refused, readTo, partOf, spineAt}
+use Rattle.paths.specs.Row.{Spine, line, branch, partOf, spineAt}
+use Rattle.paths.specs.Trace.{from, branchOf, originIn, columns, trace, headerPart, part, lines, precedes, FirstWithout, MayEnd, Unmixed, FirstMixed}
+use Rattle.paths.specs.Text.{reached, ended, refused, readTo}
 
 -- the reading has come to this row after n records
 abbrev pub At : List Bool → (ℕ → Rec) → ℕ → List Spine → Type 0
@@ -48,13 +48,22 @@ pub record Demand (h : List Bool) (recs : ℕ → Rec) : Type 0 where
       (readTo h recs (suc n) ≡ refused 6 f) ↔ ((tokens (recs n) ≢ columns h recs n) × (f ≡ tokens (recs n)))
   -- "any other keeps the row"
   pub plain-keeps : (n : ℕ) (row : List Spine) → At h recs n row → Fits h recs n → (k : ℕ) → recs n ≡ plain k → At h recs (suc n) row
-  -- Question 8, exactly where "a part would hold over four lines", at whatever width; and the part that is named.
-  pub question-8 : (n : ℕ) (row : List Spine) → At h recs n row → Fits h recs n → (ts : List PathToken) → recs n ≡ star ts →
+  -- Question 17, exactly where a run of `*v` mixes origins, with the first such run's first column.
+  pub question-17 : (n : ℕ) (row : List Spine) → At h recs n row → Fits h recs n → (ts : List PathToken) → recs n ≡ star ts → (f : ℕ) →
+      (readTo h recs (suc n) ≡ refused 17 f) ↔ FirstMixed h recs n f
+  -- Where none does: question 8, exactly where "a part would hold over four lines", at whatever width; and the part that is named.
+  pub question-8 : (n : ℕ) (row : List Spine) → At h recs n row → Fits h recs n → (ts : List PathToken) → recs n ≡ star ts → Unmixed h recs n →
       ((q : ℕ) × (readTo h recs (suc n) ≡ refused 8 q)) ↔ ((p : ℕ) × (4 < lines h recs (suc n) p))
   pub names : (n : ℕ) (row : List Spine) → At h recs n row → (q : ℕ) → readTo h recs (suc n) ≡ refused 8 q → FirstWithout h recs n q
   -- Question 9, with the count of spines, where no part would hold over four lines.
-  pub question-9 : (n : ℕ) (row : List Spine) → At h recs n row → Fits h recs n → (ts : List PathToken) → recs n ≡ star ts → (f : ℕ) →
+  pub question-9 : (n : ℕ) (row : List Spine) → At h recs n row → Fits h recs n → (ts : List PathToken) → recs n ≡ star ts → Unmixed h recs n → (f : ℕ) →
       (readTo h recs (suc n) ≡ refused 9 f) ↔ (((p : ℕ) → lines h recs (suc n) p ≤ 4) × (256 < f) × (f ≡ columns h recs (suc n)))
   -- Else the record is taken.
-  pub goes-on : (n : ℕ) (row : List Spine) → At h recs n row → Fits h recs n → (ts : List PathToken) → recs n ≡ star ts →
+  pub goes-on : (n : ℕ) (row : List Spine) → At h recs n row → Fits h recs n → (ts : List PathToken) → recs n ≡ star ts → Unmixed h recs n →
       ((p : ℕ) → lines h recs (suc n) p ≤ 4) → columns h recs (suc n) ≤ 256 → (next : List Spine) × At h recs (suc n) next
+  -- A record in which a run mixes origins is neither taken nor refused with 8.
+  pub unmixed : (n : ℕ) (row next : List Spine) → At h recs n row → At h recs (suc n) next → Unmixed h recs n
+  pub unmixed-8 : (n : ℕ) (row : List Spine) → At h recs n row → (q : ℕ) → readTo h recs (suc n) ≡ refused 8 q → Unmixed h recs n
+  -- "an accepted trace ends in the same part, or outside kern, whichever line of a join it follows"; the leftmost trace is one of them.
+  pub one-origin : (n : ℕ) (row : List Spine) → At h recs n row → (j : ℕ) (e : Option ℕ) → MayEnd recs n j e → bind e (headerPart h) ≡ part h recs n j
+  pub leftmost : (n j : ℕ) → MayEnd recs n j (trace recs n j)

@@ -1,13 +1,12 @@
 -- The reading of a text's records, one after another.
 use mathlib.Core.Bool.{Bool, true, false, cond}
 use mathlib.Core.List.{List, [], _∷_}
-use mathlib.Core.Option.{Option, none, some}
 use Prim.Native.Nat.{ℕ, zero, suc}
 use lib.Dec.{eqb}
-use lib.ListN.{length, getD}
+use lib.ListN.{length}
 use Rattle.paths.specs.Record.{Rec, star, plain, tokens}
-use Rattle.paths.specs.Row.{Spine, line, branch, outside}
-use Rattle.paths.specs.Voices.{Outcome, next, voiceless, wide, stepRow}
+use Rattle.paths.specs.Row.{Spine, line, outside}
+use Rattle.paths.specs.Voices.{Outcome, next, mixed, voiceless, wide, stepRow}
 
 -- "The first row is the header, `**kern` columns with voice 0": h says which columns these are, and the parts are numbered on from p
 unfoldable pub headerFrom : ℕ → List Bool → List Spine
@@ -26,6 +25,7 @@ pub data Reading : Type 0 where
 
 abbrev pub reading : Outcome → Reading
 reading (next row) = reached row
+reading (mixed c) = refused 17 c
 reading (voiceless p) = refused 8 p
 reading (wide n) = refused 9 n
 
@@ -48,12 +48,3 @@ andThen (refused q f) k = refused q f
 unfoldable pub readTo : List Bool → (ℕ → Rec) → ℕ → Reading
 readTo h recs zero = reached (headerRow h)
 readTo h recs (suc n) = andThen (readTo h recs n) (λ row. takeRecord row (recs n))
-
--- a spine's part, and that of column j of a row: none outside kern
-abbrev pub partOf : Spine → Option ℕ
-partOf (line p v) = some p
-partOf (branch p) = some p
-partOf outside = none
-
-abbrev pub spineAt : List Spine → ℕ → Spine
-spineAt row j = getD row j outside

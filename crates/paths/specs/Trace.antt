@@ -2,6 +2,7 @@
 -- Quoted are document 01's sentences.
 use mathlib.Core.Bool.{Bool, true, false, _&&_, _||_, not, cond}
 use mathlib.Core.List.{List, [], _∷_}
+use mathlib.Core.Logic.{_≢_}
 use mathlib.Core.Option.{Option, none, some, bind}
 use mathlib.Core.Path.{_≡_}
 use Prim.Native.Nat.{ℕ, zero, suc, _+_, _-_, pred, _≤_, _<_}
@@ -99,6 +100,22 @@ unfoldable pub trace : (ℕ → Rec) → ℕ → ℕ → Option ℕ
 trace recs zero j = some j
 trace recs (suc n) j = bind (columnOf (originIn (recs n) j)) (trace recs n)
 
+-- columns i to k have a `*v` each: they stand in one run
+abbrev pub InRun : List PathToken → ℕ → ℕ → Type 0
+InRun ts i k = (i ≤ k) × ((c : ℕ) → i ≤ c → c ≤ k → isJoin (tokenAt ts c) ≡ true)
+
+abbrev pub Joined : Rec → ℕ → ℕ → Type 0
+Joined (star ts) i k = InRun ts i k
+Joined (plain m) i k = ⊥
+
+-- "whichever line of a join it follows": column j of the row after n records, traced backwards, may end at this column of the header, or at none. A
+-- join comes from its first `*v` and from any other of its run.
+pub data MayEnd (recs : ℕ → Rec) : ℕ → ℕ → Option ℕ → Type 0 where
+  at-header : {j : ℕ} → MayEnd recs 0 j (some j)
+  from-none : {n j : ℕ} → columnOf (originIn (recs n) j) ≡ none → MayEnd recs (suc n) j none
+  from-one : {n j i : ℕ} {e : Option ℕ} → columnOf (originIn (recs n) j) ≡ some i → MayEnd recs n i e → MayEnd recs (suc n) j e
+  from-join : {n j i k : ℕ} {e : Option ℕ} → columnOf (originIn (recs n) j) ≡ some i → Joined (recs n) i k → MayEnd recs n k e → MayEnd recs (suc n) j e
+
 -- how many of the header's columns left of column k are `**kern`
 unfoldable pub kernsBefore : List Bool → ℕ → ℕ
 kernsBefore h zero = 0
@@ -113,6 +130,21 @@ headerPart h k = cond (getD h k false) (some (kernsBefore h k)) none
 -- "Its part is the `**kern` header column reached; a column that reaches none is outside kern."
 unfoldable pub part : List Bool → (ℕ → Rec) → ℕ → ℕ → Option ℕ
 part h recs n j = bind (trace recs n j) (headerPart h)
+
+-- "lines of one part, or lines all outside kern": no run of `*v` of record n mixes origins
+abbrev pub Unmixed : List Bool → (ℕ → Rec) → ℕ → Type 0
+Unmixed h recs n = (i k : ℕ) → Joined (recs n) i k → part h recs n i ≡ part h recs n k
+
+-- "a run of `*v` mixes origins; figure the first such run's first column, from 1": two columns of one run are of different origins, none to their left
+-- stands in that run, and no run further left mixes
+pub record FirstMixed (h : List Bool) (recs : ℕ → Rec) (n f : ℕ) : Type 0 where
+  pub column : ℕ
+  pub other : ℕ
+  pub joined : Joined (recs n) column other
+  pub mixes : part h recs n column ≢ part h recs n other
+  pub begins : (i : ℕ) → i < column → Joined (recs n) i column → ⊥
+  pub first : (i k : ℕ) → i < column → Joined (recs n) i k → part h recs n i ≡ part h recs n k
+  pub figure : f ≡ column + 1
 
 -- "Active spines and lines are the row's columns": how many the row after n records has
 abbrev pub widthIn : Rec → ℕ → ℕ

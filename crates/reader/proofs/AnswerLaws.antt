@@ -19,11 +19,13 @@ use Rattle.reading.specs.State.{start}
 use Rattle.reading.specs.Text.{Answer, refusal, accepted, readLines, readText, sheetBytes, answerOf, bufferOf}
 use Rattle.state.specs.Lay.{laid, behind}
 use Rattle.state.proofs.LayLaws.{laid-fits, behind-small}
-use Rattle.account.specs.Reached.{Question-8}
-use Rattle.account.proofs.Question.{question-8}
+use Rattle.account.specs.Joins.{OneOrigin}
+use Rattle.account.specs.Reached.{Question-8, Question-17}
+use Rattle.account.proofs.Distinct.{one-origin}
+use Rattle.account.proofs.Question.{question-8, question-17}
 use Rattle.demand.specs.Played.{Played}
 use Rattle.demand.proofs.PlayedLaws.{played}
-use Rattle.demand.proofs.NumberLaws.{refusal-number}
+use Rattle.demand.proofs.NumberLaws.{refusal-number, refusal-not-13}
 use Rattle.extent.specs.Extent.{Extent}
 use Rattle.extent.proofs.TextLaws.{extent}
 use Rattle.reader.specs.Landing.{refused, written, finished, linesAt}
@@ -156,12 +158,20 @@ tells text out rest (Refused n l g) e = refusal-is (readText text) n l g out e
 tells text out rest (Written p n k) e = measured text p n k out rest e
 
 -- ---- the answers, with all that the contract says of them
+
+-- what holds of every text: questions 8 and 17, and the traces
+abbrev pub Stopped : List ℕ → Type 0
+Stopped text = Question-8 text × (Question-17 text × OneOrigin text)
+
+stopped : (text : List ℕ) → Stopped text
+stopped text = (question-8 text, (question-17 text, one-origin text))
+
 abbrev pub Answers : List ℕ → List ℕ → List ℕ → Answered → Type 0
 Answers text old now-out r =
     (numbersOf r ≡ answerOf text old)
     × (((k f : ℕ) → r ≡ RefusedWith 0 k f → ⊥)
     × ((now-out ≡ bufferOf text old)
-    × (((n : ℕ) → r ≡ Accepted n → Played text now-out) × (((f : ℕ) → r ≡ RefusedWith 13 0 f → f < 2 ^ 32) × Question-8 text))))
+    × (((n : ℕ) → r ≡ Accepted n → Played text now-out) × (((f : ℕ) → r ≡ RefusedWith 13 0 f → f < 2 ^ 32) × Stopped text))))
 
 pub answers-refused : (text old : List ℕ) (n l f : ℕ) → readText text ≡ refusal n l f → Answers text old old (RefusedWith n l f)
 answers-refused text old n l f e =
@@ -174,7 +184,7 @@ answers-refused text old n l f e =
           sym (a .1),
           (
             λ (k : ℕ) q. clash cc,
-            (λ (g : ℕ) q. absurd (let z : n ≡ 13 = cc in omega (arith, few .1)), question-8 text),
+            (λ (g : ℕ) q. absurd (let z : n ≡ 13 = cc in refusal-not-13 text n l f e z), stopped text),
           ),
         ),
       ),
@@ -191,7 +201,7 @@ answers-short {text} {parts} {notes} {at} old m h =
           sym (a .1),
           (
             λ (k : ℕ) q. clash cc,
-            (λ (g : ℕ) q. let z : 16 + at ≡ g = cc in omega (arith, measured-long m), question-8 text),
+            (λ (g : ℕ) q. let z : 16 + at ≡ g = cc in omega (arith, measured-long m), stopped text),
           ),
         ),
       ),
@@ -207,7 +217,7 @@ answers-written {text} {parts} {notes} {at} old bytes m h {now-out} e = (
       e,
       (
         λ (k : ℕ) q. subst (Played text) (sym e) (played text old bytes parts notes (m .records) (m .is) (omega (arith, m .size))),
-        (λ (g : ℕ) q. clash cc, question-8 text),
+        (λ (g : ℕ) q. clash cc, stopped text),
       ),
     ),
   ),

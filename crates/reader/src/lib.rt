@@ -14,7 +14,8 @@ ghost use Rattle.lines.specs.Lines.{linesOf, withoutCRs};
 ghost use Rattle.reading.specs.State.{start};
 ghost use Rattle.reading.specs.Text.{answerOf, bufferOf};
 ghost use Rattle.state.specs.View.{stateOf};
-ghost use Rattle.account.specs.Reached.{Question-8};
+ghost use Rattle.account.specs.Joins.{OneOrigin};
+ghost use Rattle.account.specs.Reached.{Question-8, Question-17};
 ghost use Rattle.demand.specs.Played.{Played};
 ghost use Rattle.reader.specs.Answer.{numbersOf};
 ghost use Rattle.reader.specs.Landing.{isPassed, finishAt, linesAt};
@@ -232,6 +233,8 @@ pub fn read(text: &[u8], out: &mut [u8]) -> Answer
     ensures played { λ r. ⌜ ((n : ℕ) → r ≡ Accepted n → Played (now (text .entry)) (now (out .exit))) ⌝ }
     ensures needed { λ r. ⌜ ((f : ℕ) → r ≡ Refused 13 0 f → f < 2 ^ 32) ⌝ }
     ensures stopped { λ _. ⌜ Question-8 (now (text .entry)) ⌝ }
+    ensures joined { λ _. ⌜ Question-17 (now (text .entry)) ⌝ }
+    ensures traced { λ _. ⌜ OneOrigin (now (text .entry)) ⌝ }
 {
     if text.len() > 67108864 {
         return Answer::Refused {

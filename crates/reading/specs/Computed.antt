@@ -8,7 +8,8 @@ use Rattle.lines.specs.Lines.{keep, withoutCRs, kindOf}
 use Rattle.lines.specs.Tokens.{isNull, isKern, isExclusive, isStar, isEmpty}
 use Rattle.reference.specs.Reference.{keyOf, spanOf, referenceOf}
 use Rattle.reference.specs.Trim.{white, width, firstCharacters, characters, text, fromFirst, before, upToLast, trimmed, leading, leadingWhite, trimmedEnd, trimmedAt}
-use Rattle.paths.specs.Row.{branchFrom, advance}
+use Rattle.paths.specs.Joins.{strays, mixedFrom}
+use Rattle.paths.specs.Row.{partAt, branchFrom, advance}
 use Rattle.paths.specs.Text.{headerFrom, takeRecord, readTo}
 use Rattle.paths.specs.Token.{pathToken}
 use Rattle.paths.specs.Voices.{holds, lowest, withVoice, giveVoices, voiceRow, stepRow}
@@ -46,5 +47,5 @@ shown (refusal n l f) = n ∷ l ∷ f ∷ []
 shown (accepted parts notes rs) = sheetBytes parts notes rs
 
 unfoldable pub computed : List ℕ → List ℕ
-unfolding headD beginsWith sameBytes join split pieces indexOf table begins firstOf charLength charsLength utf8Length bits codePoint keep withoutCRs kindOf isNull isKern isExclusive isStar isEmpty keyOf spanOf referenceOf white width firstCharacters characters text fromFirst before upToLast trimmed leading leadingWhite trimmedEnd trimmedAt branchFrom advance headerFrom takeRecord readTo pathToken holds lowest withVoice giveVoices voiceRow stepRow each isOrdinary isBar identicalBars repairOf repairBy questions digits numberFrom numberOf exponentOf gcdIn writtenAt written counts durationOf within lowerCase upperCase lowerPitch upperPitch pitchOf alteredBy signs twosComplement rightOf leftOf barlinesOf contains containsPair trimStart isLetter joins into runs itemOf itemsOf more first nextItem noteOf withoutDigits outcomeOf scanItems badLength upToBlank firstSub isSilent givenIn marks countOf dotsOf restOf anyOf graceBy graceFrom articulation articulationsIn heard passes signifiers onlySigns isBare leading-peers forbids offerOf peersFrom allOffer uniform kernCells clefs clefOf isDigit allDigits decimalOn decimal meterMark isAttribute otherOf meaningOf interpretationOf endsWith withoutLast isPrefix signatureOf keyOf-interpretation tonicMode modeOf powerBelow powerOfTwo withoutPlus meterFrom meterOf symbols symbolOf numberUpTo byteNumber rounded tempoFrom tempoOf placeFrom placeOf spanOf-sheet headBytes noteBytes pitchBytes barBytes partBytes endBytes noticeBytes extraLength pitchesBytes recordBytes recordsBytes exchangesRight exchangesLeft placed keep-reading notify notifySignifiers readReference noticeOthers freshParts anyKern readHeader readColumns readStar anyNoted closing keepLeft decidingOr deciding closeWith readBar noteRecord addNote inferredFor readToken-at readTokens readData noticeRepair readLine lastPart lastClosing lastRecords finish readLines readText sheetBytes answerOf bufferOf
+unfolding headD beginsWith sameBytes join split pieces indexOf table begins firstOf charLength charsLength utf8Length bits codePoint keep withoutCRs kindOf isNull isKern isExclusive isStar isEmpty keyOf spanOf referenceOf white width firstCharacters characters text fromFirst before upToLast trimmed leading leadingWhite trimmedEnd trimmedAt branchFrom advance headerFrom takeRecord readTo pathToken holds lowest withVoice giveVoices voiceRow partAt strays mixedFrom stepRow each isOrdinary isBar identicalBars repairOf repairBy questions digits numberFrom numberOf exponentOf gcdIn writtenAt written counts durationOf within lowerCase upperCase lowerPitch upperPitch pitchOf alteredBy signs twosComplement rightOf leftOf barlinesOf contains containsPair trimStart isLetter joins into runs itemOf itemsOf more first nextItem noteOf withoutDigits outcomeOf scanItems badLength upToBlank firstSub isSilent givenIn marks countOf dotsOf restOf anyOf graceBy graceFrom articulation articulationsIn heard passes signifiers onlySigns isBare leading-peers forbids offerOf peersFrom allOffer uniform kernCells clefs clefOf isDigit allDigits decimalOn decimal meterMark isAttribute otherOf meaningOf interpretationOf endsWith withoutLast isPrefix signatureOf keyOf-interpretation tonicMode modeOf powerBelow powerOfTwo withoutPlus meterFrom meterOf symbols symbolOf numberUpTo byteNumber rounded tempoFrom tempoOf placeFrom placeOf spanOf-sheet headBytes noteBytes pitchBytes barBytes partBytes endBytes noticeBytes extraLength pitchesBytes recordBytes recordsBytes exchangesRight exchangesLeft placed keep-reading notify notifySignifiers readReference noticeOthers freshParts anyKern readHeader readColumns readStar anyNoted closing keepLeft decidingOr deciding closeWith readBar noteRecord addNote inferredFor readToken-at readTokens readData noticeRepair readLine lastPart lastClosing lastRecords finish readLines readText sheetBytes answerOf bufferOf
 computed t = shown (readText t)

@@ -12,7 +12,7 @@ use Rattle.paths.specs.declared.PathToken.the-variants.{Split, Join, Exchange, 
 use Rattle.paths.specs.Token.{pathToken}
 use Rattle.paths.specs.Trace.{exchangesRight, exchangesLeft}
 use Rattle.paths.specs.Row.{Spine, line, branch, outside}
-use Rattle.paths.specs.Voices.{Outcome, next, voiceless, wide, stepRow}
+use Rattle.paths.specs.Voices.{Outcome, next, mixed, voiceless, wide, stepRow}
 use Rattle.sheet.specs.Record.{spanOf}
 use Rattle.sheet.specs.declared.Bar.{Bar}
 use Rattle.sheet.specs.declared.Span.{Span}
@@ -213,9 +213,10 @@ readColumns ps k i (s ∷ row) [] st = quiet st
 readColumns ps k i (s ∷ row) (t ∷ ts) st =
     after (columnBy (pathToken (t .bytes)) (paired ps i) s k (i + 1) t st) (readColumns ps k (suc i) row ts)
 
--- "8, figure the part of the first that doesn't"; "9, figure their count"
+-- "17, .. a run of `*v` mixes origins; figure the first such run's first column"; "8, figure the part of the first that doesn't"; "9, figure their count"
 abbrev pub toRow : ℕ → Result → Outcome → Step
 toRow k r (next row) = goes (record { state = withRow (r .state) row; records = r .records })
+toRow k r (mixed c) = refused 17 k c
 toRow k r (voiceless p) = refused 8 k p
 toRow k r (wide n) = refused 9 k n
 

@@ -10,8 +10,7 @@ use Rattle.lines.specs.Lines.{kindOf}
 use Rattle.lines.specs.Tokens.{tokensOf}
 use Rattle.lines.specs.declared.Kind.{Kind}
 use Rattle.lines.specs.declared.Kind.the-variants.{Empty, Reference, Comment, Star, Bar, Data}
-use Rattle.paths.specs.Row.{line as line-of}
-use Rattle.paths.specs.Text.{spineAt}
+use Rattle.paths.specs.Row.{line as line-of, spineAt}
 use Rattle.spines.specs.Cells.{rowOf}
 use Rattle.repair.specs.Repair.{repaired, repairedOf}
 use Rattle.repair.specs.declared.Repair.{Repair}

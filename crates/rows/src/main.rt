@@ -1,6 +1,6 @@
 // Answers with the row that star records make of a header, a request and an answer to a line. A request is `V`, a letter for each header
 // column (`k` kern, `o` another), and the records, each behind a `|`. The answer has part and voice of each column, `-` outside
-// kern, or the number of the question that stops the reading.
+// kern, or the number of the question that stops the reading, 17 with its column.
 use voices::Step;
 ghost use Prim.Native.Nat.{_≤_};
 
@@ -68,6 +68,11 @@ fn answer(request: &[u8]) {
         match voices::step_row(&request[from..end], &mut row, active, &mut new, &mut masks) {
             Step::Next(count) => {
                 active = count;
+            }
+            Step::Mixed(column) => {
+                print(b"17 ");
+                io::print_decimal(1, column as u64);
+                return;
             }
             Step::Voiceless(_) => {
                 print(b"8");

@@ -10,8 +10,7 @@ use lib.Seq.{take-suc, drop-cons, getD-drop}
 use native.Mathlib.Numerals.{add-one}
 use borrow.Author.Tests.{eq-eqb, ne-eqb, lt-ltb, le-ltb, eqb-false, ltb-true, ltb-false}
 use Rattle.slices.proofs.TestLaws.{clash}
-use Rattle.paths.specs.Row.{Spine, line, branch, outside, branchFrom}
-use Rattle.paths.specs.Text.{spineAt}
+use Rattle.paths.specs.Row.{Spine, line, branch, outside, branchFrom, spineAt}
 use Rattle.spines.specs.Cells.{spineOf, rowOf, isBranch}
 
 -- ---- one cell

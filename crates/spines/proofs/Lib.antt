@@ -3,3 +3,4 @@ pub mod CellLaws
 pub mod TableLaws
 pub mod WalkLaws
 pub mod RecordLaws
+pub mod RunLaws

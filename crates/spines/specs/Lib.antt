@@ -3,3 +3,4 @@ pub mod Cells
 pub mod Table
 pub mod Tokens
 pub mod Emit
+pub mod Runs

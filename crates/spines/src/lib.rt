@@ -1,10 +1,14 @@
-// The row of spines, its next row by the path tokens of a record, and the table of active spines.
+// The row of spines, what a record's path tokens join, its next row by them, and the table of active spines.
 use paths::PathToken;
 ghost use mathlib.Core.Path.{_≡_};
+ghost use mathlib.Core.Bool.{_&&_, not, cond};
 ghost use Prim.Native.Nat.{min, _*_, _≤_, _<_};
 ghost use lib.ListN.{length, getD, take};
-ghost use Rattle.paths.specs.Row.{nextRow};
-ghost use Rattle.spines.specs.Cells.{rowOf};
+ghost use Rattle.paths.specs.Joins.{sameOrigin, mixedRun};
+ghost use Rattle.paths.specs.Row.{partOf, partAt, nextRow};
+ghost use Rattle.paths.specs.Voices.{Outcome, unmixed};
+ghost use Rattle.spines.specs.Cells.{spineOf, rowOf};
+ghost use Rattle.spines.specs.Runs.{runsOf};
 ghost use Rattle.spines.specs.Table.{activeAt, cellOf};
 ghost use Rattle.spines.specs.Tokens.{recordTokens, Ahead};
 ghost use Rattle.spines.specs.Emit.{modeOf, behindJoin, Emitted};
@@ -128,6 +132,71 @@ pub fn next_row(line: &[u8], row: &[u16; 512], active: usize, next: &mut [u16; 5
     ensures { λ r. ⌜ (rowOf (take r (now (next .exit))) ≡ nextRow (recordTokens (min active 256) (now (line .entry))) (rowOf (take (min active 256) (now (row .entry))))) × (r ≤ 512) ⌝ }
 {
     next_row_of(line, row, active, next)
+}
+
+// What the runs of `*v` join: lines of one origin each, or the first run that mixes origins begins in this column, from 1.
+pub enum Runs {
+    Alike,
+    Mixed(usize),
+}
+
+// Where a run of `*v` begins to which column i may belong: with it, unless a `*v` stands to the left.
+fn begin_of(joined: bool, begin: usize, i: usize) -> usize
+    ensures { λ r. ⌜ r ≡ cond joined begin i ⌝ }
+{
+    if joined {
+        return begin;
+    }
+    i
+}
+
+// Whether a `*v` joins the line of one cell to that of another origin.
+fn strays(join: bool, a: u16, b: u16) -> bool
+    ensures { λ r. ⌜ r ≡ (join && not (sameOrigin (partOf (spineOf a)) (partOf (spineOf b)))) ⌝ }
+{
+    if join {
+        return a / 8 != b / 8;
+    }
+    false
+}
+
+// One pass over the tokens: each `*v` is held to the first one of its run.
+fn walk_runs(line: &[u8], row: &[u16]) -> Runs
+    ensures { λ r. ⌜ ((o : Outcome) → runsOf r o ≡ unmixed (mixedRun (partAt (rowOf (now (row .entry)))) (recordTokens (length (now (row .entry))) (now (line .entry)))) o) ⌝ }
+{
+    let mut from = 0;
+    let mut joined = false;
+    let mut begin = 0;
+    let mut i = 0;
+    while i < row.len() {
+        let t = token_at(line, from, row.len() - i);
+        let token = t.0;
+        let join = paths::is_join(token);
+        begin = begin_of(joined, begin, i);
+        if strays(join, row[begin], row[i]) {
+            return Runs::Mixed(begin + 1);
+        }
+        joined = join;
+        from = t.1;
+        i += 1;
+    }
+    Runs::Alike
+}
+
+// The same of an array of 512 cells, of which the first `active`, at most 256, are the row.
+fn mixed_run_of(line: &[u8], row: &[u16], active: usize) -> Runs
+    requires { ⌜ length (now row) ≡ 512 ⌝ }
+    ensures { λ r. ⌜ ((o : Outcome) → runsOf r o ≡ unmixed (mixedRun (partAt (rowOf (take (min active 256) (now (row .entry))))) (recordTokens (min active 256) (now (line .entry)))) o) ⌝ }
+{
+    let count = at_most(active, 256);
+    walk_runs(line, &row[..count])
+}
+
+// Question 17: what the runs of `*v` of a record join, the row being the first `active` cells, at most 256.
+pub fn mixed_run(line: &[u8], row: &[u16; 512], active: usize) -> Runs
+    ensures { λ r. ⌜ ((o : Outcome) → runsOf r o ≡ unmixed (mixedRun (partAt (rowOf (take (min active 256) (now (row .entry))))) (recordTokens (min active 256) (now (line .entry)))) o) ⌝ }
+{
+    mixed_run_of(line, row, active)
 }
 
 // An active spine: whether it is kern, and then its part and its voice.

@@ -12,7 +12,7 @@ use Rattle.paths.specs.Voices.{Outcome, stepRow}
 use Rattle.spines.specs.Cells.{rowOf}
 use Rattle.spines.specs.Tokens.{recordTokens}
 use Rattle.voices.specs.declared.Step.{Step as StepRow}
-use Rattle.voices.specs.declared.Step.the-variants.{Next, Voiceless, Wide}
+use Rattle.voices.specs.declared.Step.the-variants.{Next, Mixed, Voiceless, Wide}
 use Rattle.voices.specs.Outcome.{outcomeOf}
 use Rattle.reading.specs.State.{Result, goes, withRow}
 use Rattle.reading.specs.Notices.{Token, placed}
@@ -42,6 +42,7 @@ rowed row (ending st at out) = ending (withRow st row) at out
 by-step : (step : StepRow) (cells row' parts' out out' : List ℕ) (t : Tally) (r : Result) (number at : ℕ) → told (Goes t) cells parts' out' ≡ landed (goes r) out at
     → toldRow (stepped step t number) row' parts' out' ≡ landed (toRow number r (outcomeOf step row')) out at
 by-step (Next n) cells row' parts' out out' t r number at h = ap (rowed (rowOf (take n row'))) h
+by-step (Mixed c) cells row' parts' out out' t r number at h = refl
 by-step (Voiceless p) cells row' parts' out out' t r number at h = refl
 by-step (Wide n) cells row' parts' out out' t r number at h = refl
 

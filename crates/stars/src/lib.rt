@@ -277,12 +277,17 @@ fn columns_of(
     read_columns(line, &row[..active], parts, tally, number, offset, out)
 }
 
-// The answer: questions 8 and 9, or the next row's width.
+// The answer: questions 17, 8 and 9, or the next row's width.
 fn answer(step: voices::Step, tally: Tally, number: u32) -> Step
     ensures { λ r. ⌜ r ≡ stepped step tally number ⌝ }
 {
     match step {
         voices::Step::Next(n) => Step::Goes(state::with_active(tally, n)),
+        voices::Step::Mixed(column) => Step::Refused {
+            number: 17,
+            line: number as usize,
+            figure: column,
+        },
         voices::Step::Voiceless(p) => Step::Refused {
             number: 8,
             line: number as usize,

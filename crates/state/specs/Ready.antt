@@ -3,8 +3,7 @@ use mathlib.Core.Path.{_≡_}
 use Prim.Native.Nat.{ℕ, _≤_, _<_}
 use mathlib.Core.List.{List}
 use lib.ListN.{length}
-use Rattle.paths.specs.Row.{Spine, line}
-use Rattle.paths.specs.Text.{spineAt}
+use Rattle.paths.specs.Row.{Spine, line, spineAt}
 use Rattle.spines.specs.Cells.{rowOf}
 use Rattle.reading.specs.State.{State}
 use Rattle.state.specs.declared.Tally.{Tally}

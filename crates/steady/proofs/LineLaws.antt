@@ -18,7 +18,7 @@ use Rattle.repair.specs.declared.Repaired.the-variants.{Uneven, Mixed, Even}
 use Rattle.paths.specs.Row.{Spine}
 use Rattle.paths.specs.Text.{headerRow}
 use Rattle.paths.specs.Token.{pathToken}
-use Rattle.paths.specs.Voices.{Outcome, next, voiceless, wide, stepRow}
+use Rattle.paths.specs.Voices.{Outcome, next, mixed, voiceless, wide, stepRow}
 use Rattle.sheet.specs.Record.{spanOf}
 use Rattle.reading.specs.State.{State, Result, Step, refused, goes, ends, start, withRow, withParts}
 use Rattle.reading.specs.Notices.{Token, placed, quiet, notify}
@@ -76,6 +76,7 @@ header-firm k at s st = go (not (each isExclusive ts)) (ltb 256 (length ts)) (no
 -- ---- star records
 row-firm : (n k : ℕ) (r : Result) (o : Outcome) → length (r .state .parts) ≡ n → OutcomeFirm n o → StepFirm (toRow k r o)
 row-firm n k r (next row) e h = subst (λ (m : ℕ). Firm row m) (sym e) h
+row-firm n k r (mixed c) e h = tt
 row-firm n k r (voiceless p) e h = tt
 row-firm n k r (wide m) e h = tt
 

@@ -11,9 +11,11 @@ use borrow.Author.Tests.{leb-true}
 use Rattle.paths.specs.declared.PathToken.{PathToken}
 use Rattle.paths.specs.declared.PathToken.the-variants.{Split, Join, Exchange, End, Add, Other}
 use Rattle.paths.specs.Token.{isExchange, isJoin}
-use Rattle.paths.specs.Row.{Spine, line, branch, outside, branchFrom, advance, nextRow}
+use Rattle.paths.specs.Joins.{mixedRun}
+use Rattle.paths.specs.Row.{Spine, line, branch, outside, branchFrom, partAt, advance, nextRow}
 use Rattle.paths.specs.Text.{headerFrom}
-use Rattle.paths.specs.Voices.{Outcome, next, voiceless, wide, ahead, settle, lowest, holds, withVoice, giveVoices, voiceRow, narrow, stepRow}
+use Rattle.paths.specs.Voices.{Outcome, next, mixed, voiceless, wide, ahead, settle, lowest, holds, withVoice, giveVoices, voiceRow, narrow, stepRow}
+use Rattle.paths.proofs.StepLaws.{unmixed-holds}
 use Rattle.reading.specs.Header.{freshParts}
 use Rattle.state.specs.Ready.{Within}
 use Rattle.extent.proofs.StateLaws.{either}
@@ -75,11 +77,13 @@ next-in n (Other ∷ ts) (s ∷ row) h = (h .0, next-in n ts row (h .1))
 
 abbrev OutcomeIn : ℕ → Outcome → Type 0
 OutcomeIn n (next row) = Inside n row
+OutcomeIn n (mixed c) = Unit {0}
 OutcomeIn n (voiceless p) = Unit {0}
 OutcomeIn n (wide m) = Unit {0}
 
 ahead-in : (n : ℕ) (s : Spine) (o : Outcome) → InPart n s → OutcomeIn n o → OutcomeIn n (ahead s o)
 ahead-in n s (next row) h g = (h, g)
+ahead-in n s (mixed c) h g = tt
 ahead-in n s (voiceless p) h g = tt
 ahead-in n s (wide m) h g = tt
 
@@ -97,6 +101,7 @@ give-in n held (branch p ∷ row) h =
 
 abbrev pub OutcomeFirm : ℕ → Outcome → Type 0
 OutcomeFirm n (next row) = Firm row n
+OutcomeFirm n (mixed c) = Unit {0}
 OutcomeFirm n (voiceless p) = Unit {0}
 OutcomeFirm n (wide m) = Unit {0}
 
@@ -107,9 +112,12 @@ narrow-firm n (next row) h = go (leb (length row) 256) refl
     go : (t : Bool) → leb (length row) 256 ≡ t → OutcomeFirm n (cond t (next row) (wide (length row)))
     go true e = (leb-true (length row) 256 e, h)
     go false e = tt
+narrow-firm n (mixed c) h = tt
 narrow-firm n (voiceless p) h = tt
 narrow-firm n (wide m) h = tt
 
 pub step-firm : (n : ℕ) (row : List Spine) (ts : List PathToken) → Inside n row → OutcomeFirm n (stepRow row ts)
 unfolding stepRow voiceRow
-step-firm n row ts h = narrow-firm n (voiceRow (nextRow ts row)) (give-in n (holds (nextRow ts row)) (nextRow ts row) (next-in n ts row h))
+step-firm n row ts h =
+    unmixed-holds (OutcomeFirm n) (mixedRun (partAt row) ts) (narrow (voiceRow (nextRow ts row))) (λ (c : ℕ). tt)
+    (narrow-firm n (voiceRow (nextRow ts row)) (give-in n (holds (nextRow ts row)) (nextRow ts row) (next-in n ts row h)))

@@ -8,8 +8,9 @@ use Rattle.slices.specs.Ascii.{ascii}
 use Rattle.slices.specs.Split.{join, split}
 use Rattle.slices.specs.Compare.{sameBytes}
 use Rattle.paths.specs.Token.{pathToken}
-use Rattle.paths.specs.Row.{line, outside, branchFrom, advance}
-use Rattle.paths.specs.Voices.{Outcome, next, voiceless, holds, lowest, withVoice, giveVoices, voiceRow, stepRow}
+use Rattle.paths.specs.Joins.{strays, mixedFrom}
+use Rattle.paths.specs.Row.{line, outside, partAt, branchFrom, advance}
+use Rattle.paths.specs.Voices.{Outcome, next, mixed, voiceless, holds, lowest, withVoice, giveVoices, voiceRow, stepRow}
 use Rattle.spines.specs.Cells.{spineOf, rowOf}
 use Rattle.spines.specs.Tokens.{pathTokens, recordTokens}
 
@@ -34,6 +35,10 @@ examples =
     -- a join frees the voices of its other lines
     ∷ example four "*^\t*v\t*v\t*" (next (line 0 0 ∷ line 0 2 ∷ line 0 1 ∷ line 0 3 ∷ []))
     ∷ example four "*^\t*\t*\t*" (voiceless 0)
+    -- a join over two parts, or over kern and outside kern, is refused with 17 before a branch finds no voice
+    ∷ example (8 ∷ 9 ∷ 10 ∷ 11 ∷ 16 ∷ 24 ∷ []) "*^\t*\t*\t*\t*v\t*v" (mixed 5)
+    ∷ example (0 ∷ 3 ∷ 8 ∷ 9 ∷ 0 ∷ []) "*v\t*v\t*v\t*\t*v" (mixed 1)
+    ∷ example (0 ∷ 3 ∷ 8 ∷ 9 ∷ 0 ∷ []) "*v\t*v\t*\t*v\t*v" (mixed 4)
     -- a token that the line lacks is a filled `*`
     ∷ example (8 ∷ 16 ∷ 0 ∷ []) "*" (next (line 0 0 ∷ line 1 0 ∷ outside ∷ []))
     -- each part has voices of its own; outside kern none is needed
@@ -41,5 +46,5 @@ examples =
     ∷ []
 
 outcomes : map (λ (e : Example). stepRow (rowOf (e .cells)) (recordTokens (length (e .cells)) (e .record-line))) examples ≡ map (λ (e : Example). e .outcome) examples
-unfolding examples example four split join sameBytes pathToken pathTokens rowOf spineOf stepRow voiceRow giveVoices holds lowest withVoice advance branchFrom
+unfolding examples example four split join sameBytes pathToken pathTokens rowOf spineOf partAt strays mixedFrom stepRow voiceRow giveVoices holds lowest withVoice advance branchFrom
 outcomes = refl

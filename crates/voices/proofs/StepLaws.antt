@@ -8,9 +8,13 @@ use lib.ListN.{length, getD, take, drop, set, length-set}
 use lib.Seq.{take-suc, take-suc-set, take-all, take-at, length-take-le}
 use borrow.Author.Tests.{le-leb, lt-leb}
 use Rattle.paths.specs.declared.PathToken.{PathToken}
-use Rattle.paths.specs.Row.{Spine, nextRow}
-use Rattle.paths.specs.Voices.{Outcome, next, voiceless, wide, voiceRow, narrow, stepRow}
+use Rattle.paths.specs.Joins.{mixedRun}
+use Rattle.paths.specs.Row.{Spine, partAt, nextRow}
+use Rattle.paths.specs.Voices.{Outcome, next, mixed, voiceless, wide, voiceRow, narrow, unmixed, stepRow}
 use Rattle.spines.specs.Cells.{rowOf}
+use Rattle.spines.specs.Runs.{runsOf}
+use Rattle.spines.specs.declared.Runs.{Runs}
+use Rattle.spines.specs.declared.Runs.the-variants.{Alike, Mixed}
 use Rattle.voices.specs.Outcome.{givenOf}
 use Rattle.voices.specs.declared.Given.{Given}
 use Rattle.voices.specs.declared.Given.the-variants.{All, Without}
@@ -66,7 +70,14 @@ module _ (n : ℕ) (before after : List ℕ) (g : Given) (fits : n ≤ 512)
   pub unsettled : (p : ℕ) → g ≡ Without p → voiceless p ≡ narrow (voiceRow (rowOf (take n before)))
   unsettled p e = ap (λ (x : Given). narrow (givenOf x (take n after))) (sym e) ∙ ap narrow outcome
 
--- ---- one star record: the next row first
-pub stepped : (row : List Spine) (ts : List PathToken) (new : List Spine) (o : Outcome) → new ≡ nextRow ts row → o ≡ narrow (voiceRow new) → o ≡ stepRow row ts
-unfolding stepRow
-stepped row ts new o walked e = e ∙ ap (λ (r : List Spine). narrow (voiceRow r)) walked
+-- ---- one star record: its runs first, then the next row
+module _ (row : List Spine) (ts : List PathToken) {r : Runs} (runs : (o : Outcome) → runsOf r o ≡ unmixed (mixedRun (partAt row) ts) o) where
+  pub stepped : (new : List Spine) (o : Outcome) → r ≡ Alike → new ≡ nextRow ts row → o ≡ narrow (voiceRow new) → o ≡ stepRow row ts
+  unfolding stepRow
+  stepped new o alike walked e =
+      e ∙ ap (λ (r : List Spine). narrow (voiceRow r)) walked ∙ ap (λ (x : Runs). runsOf x (narrow (voiceRow (nextRow ts row)))) (sym alike)
+      ∙ runs (narrow (voiceRow (nextRow ts row)))
+
+  pub stopped : (c : ℕ) → r ≡ Mixed c → mixed c ≡ stepRow row ts
+  unfolding stepRow
+  stopped c e = ap (λ (x : Runs). runsOf x (narrow (voiceRow (nextRow ts row)))) (sym e) ∙ runs (narrow (voiceRow (nextRow ts row)))

@@ -1,4 +1,5 @@
 // Voices for the branches of a row, and what a star record makes of the row.
+use spines::Runs;
 ghost use mathlib.Core.Path.{_≡_};
 ghost use Prim.Native.Nat.{min, _*_, _/_, _%_, _+_, _≤_, _<_};
 ghost use lib.ListN.{length, take};
@@ -149,9 +150,10 @@ fn give_of(next: &mut [u16], count: usize, masks: &mut [u8]) -> Given
     give(&mut next[..n], masks)
 }
 
-// What a star record comes to: the next row's count; question 8 with a part; question 9 with a count.
+// What a star record comes to: the next row's count; question 17 with a column; question 8 with a part; question 9 with a count.
 pub enum Step {
     Next(usize),
+    Mixed(usize),
     Voiceless(u16),
     Wide(usize),
 }
@@ -192,7 +194,7 @@ fn settle(row: &mut [u16], new: &mut [u16], n: usize, masks: &mut [u8]) -> Step
     }
 }
 
-// One star record: the next row of the first `active` cells, at most 256, with its voices, over the old one. `new` is room for it.
+// One star record: question 17, then the next row of the first `active` cells, at most 256, with its voices, over the old one. `new` is room for it.
 pub fn step_row(
     line: &[u8],
     row: &mut [u16; 512],
@@ -202,6 +204,11 @@ pub fn step_row(
 ) -> Step
     ensures { λ r. ⌜ (outcomeOf r (now (row .exit)) ≡ stepRow (rowOf (take (min active 256) (now (row .entry)))) (recordTokens (min active 256) (now (line .entry)))) × (activeAfter r ≤ 256) ⌝ }
 {
-    let n = spines::next_row(line, row, active, new);
-    settle(row, new, n, masks)
+    match spines::mixed_run(line, row, active) {
+        Runs::Alike => {
+            let n = spines::next_row(line, row, active, new);
+            settle(row, new, n, masks)
+        }
+        Runs::Mixed(column) => Step::Mixed(column),
+    }
 }

@@ -6,10 +6,10 @@ use Rattle.rows.proofs.answer.Statement.{statement}
 use Rattle.rows.proofs.answer.Tie as tie
 
 abbrev Inv-loop : tie.InvT-loop
-Inv-loop request row₀ new₀ masks₀ head active₀ from₀ t10 t11 row new masks active from = from ≤ length request + 1
+Inv-loop request row₀ new₀ masks₀ head active₀ from₀ t11 t12 t13 row new masks active from = from ≤ length request + 1
 
 abbrev μ-loop : tie.MeasureT-loop
-μ-loop request row₀ new₀ masks₀ head active₀ from₀ t10 t11 row new masks active from = length request + 1 - from
+μ-loop request row₀ new₀ masks₀ head active₀ from₀ t11 t12 t13 row new masks active from = length request + 1 - from
 
 find-requires : tie.Need-find-requires Inv-loop μ-loop
 find-requires c κs = search needs
@@ -59,8 +59,8 @@ step-row-requires c κs = search needs
 enum-known-count : tie.Need-enum-known-count Inv-loop μ-loop
 enum-known-count c = search needs
 
-enum-told : tie.Need-enum-told Inv-loop μ-loop
-enum-told c = search needs
+enum-known-column : tie.Need-enum-known-column Inv-loop μ-loop
+enum-known-column c = search needs
 
 slice-aggregate-print : tie.Need-slice-aggregate-print Inv-loop μ-loop
 slice-aggregate-print c = search needs
@@ -68,11 +68,14 @@ slice-aggregate-print c = search needs
 print-requires : tie.Need-print-requires Inv-loop μ-loop
 print-requires c κs = search needs
 
+print-decimal-requires : tie.Need-print-decimal-requires Inv-loop μ-loop
+print-decimal-requires c κs = search needs
+
 returns : tie.Need-returns Inv-loop μ-loop
 returns c = search needs
 
-enum-told-2 : tie.Need-enum-told-2 Inv-loop μ-loop
-enum-told-2 c = search needs
+enum-told : tie.Need-enum-told Inv-loop μ-loop
+enum-told c = search needs
 
 slice-aggregate-print-2 : tie.Need-slice-aggregate-print-2 Inv-loop μ-loop
 slice-aggregate-print-2 c = search needs
@@ -82,6 +85,18 @@ print-requires-2 c κs = search needs
 
 returns-2 : tie.Need-returns-2 Inv-loop μ-loop
 returns-2 c = search needs
+
+enum-told-2 : tie.Need-enum-told-2 Inv-loop μ-loop
+enum-told-2 c = search needs
+
+slice-aggregate-print-3 : tie.Need-slice-aggregate-print-3 Inv-loop μ-loop
+slice-aggregate-print-3 c = search needs
+
+print-requires-3 : tie.Need-print-requires-3 Inv-loop μ-loop
+print-requires-3 c κs = search needs
+
+returns-3 : tie.Need-returns-3 Inv-loop μ-loop
+returns-3 c = search needs
 
 add-from-2 : tie.Need-add-from-2 Inv-loop μ-loop
 add-from-2 c = search needs
@@ -95,8 +110,8 @@ loop-again c = search needs
 print-row-requires : tie.Need-print-row-requires Inv-loop μ-loop
 print-row-requires c κs = search needs
 
-returns-3 : tie.Need-returns-3 Inv-loop μ-loop
-returns-3 c = search needs
+returns-4 : tie.Need-returns-4 Inv-loop μ-loop
+returns-4 c = search needs
 
 pub answer-spec : {M : Type 1} → statement M
 answer-spec =
@@ -120,16 +135,21 @@ answer-spec =
     part-step-row-end
     step-row-requires
     enum-known-count
-    enum-told
+    enum-known-column
     slice-aggregate-print
     print-requires
+    print-decimal-requires
     returns
-    enum-told-2
+    enum-told
     slice-aggregate-print-2
     print-requires-2
     returns-2
+    enum-told-2
+    slice-aggregate-print-3
+    print-requires-3
+    returns-3
     add-from-2
     loop-less
     loop-again
     print-row-requires
-    returns-3)
+    returns-4)
