@@ -19,6 +19,12 @@ extern "C" {
  * acceptance the buffer holds the sheet first and its old bytes behind; after a refusal it is unchanged. */
 uint32_t kern_read(const uint8_t *text, size_t text_len, uint8_t *out, size_t out_len, uint64_t answer[3]);
 
+/* Reads a text as kern_read does. Where it is refused with 8, `lines` holds what fills the staff of the part that the figure names, five times
+ * column, voice and header column, columns from 1: first the columns of the row before the record that carry a line of the part on through it,
+ * by rising column, then its branches from left to right, each with the column of its `*^`, up to the one that finds no voice, whose voice is 4.
+ * The first four voices are 0 to 3, each once. On any other outcome `lines` is unchanged. */
+uint32_t kern_read_lines(const uint8_t *text, size_t text_len, uint8_t *out, size_t out_len, uint64_t answer[3], uint64_t lines[15]);
+
 /* Fills a hole of so many ticks, at so many divisions to the quarter, with hidden rests: NOTE records with part, voice, bar, line and column
  * 0, for a voice that has so many notes. Answers 0, else 14 where some ticks remain and no value fits them, 15 where the voice would pass
  * 50,000 notes, 13 where the buffer is too short. `answer` and the buffer are as after kern_read. The rests' lengths add up to the hole. */

@@ -1,6 +1,8 @@
 //! Our reader beside the published one.
 #[cfg(library)]
 mod bench;
+#[cfg(library)]
+mod causes;
 mod check;
 mod encoder;
 /// The published module of gaps, which names an error of its own crate.
@@ -132,6 +134,7 @@ fn library(words: &[&str]) -> ExitCode {
         ["reader", "short", lines] => reader::short(lines.parse().expect("a number of lines")),
         ["reader", "edges"] => reader::edges(),
         ["reader", seed, texts] => reader::by_seed(seed.parse().expect("a seed"), texts.parse().expect("a number of texts")),
+        ["causes", seed, texts] => causes::by_seed(seed.parse().expect("a seed"), texts.parse().expect("a number of texts")),
         ["bench", "gaps"] => gaps::bench(),
         ["gaps", seed, holes] => gaps::beside(seed.parse().expect("a seed"), holes.parse().expect("a number of holes")),
         ["bench"] => bench::all(""),
@@ -147,7 +150,7 @@ fn library(_: &[&str]) -> ExitCode {
 }
 
 fn usage() -> ExitCode {
-    eprintln!("usage: compare sheet TEXT | compare encoder SEED TEXTS | compare run leaves|rows|tokens|longer-tokens PROGRAM | compare run texts PROGRAM SEED TEXTS | compare sample leaves|rows|tokens|texts REQUESTS ANSWERS | compare reader SEED TEXTS | compare reader short LINES | compare reader edges | compare gaps SEED HOLES | compare bench [KIND]");
+    eprintln!("usage: compare sheet TEXT | compare encoder SEED TEXTS | compare run leaves|rows|tokens|longer-tokens PROGRAM | compare run texts PROGRAM SEED TEXTS | compare sample leaves|rows|tokens|texts REQUESTS ANSWERS | compare reader SEED TEXTS | compare reader short LINES | compare reader edges | compare causes SEED TEXTS | compare gaps SEED HOLES | compare bench [KIND]");
     ExitCode::from(2)
 }
 
@@ -165,7 +168,7 @@ fn main() -> ExitCode {
         }
         ["encoder", seed, texts] => check::encoder(seed.parse().expect("a seed"), texts.parse().expect("a number of texts")),
         ["sheet", text] => sheet(text),
-        ["reader" | "gaps" | "bench", ..] => library(&words.iter().map(String::as_str).collect::<Vec<_>>()),
+        ["reader" | "causes" | "gaps" | "bench", ..] => library(&words.iter().map(String::as_str).collect::<Vec<_>>()),
         _ => usage(),
     }
 }

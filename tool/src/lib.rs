@@ -28,6 +28,23 @@ pub fn sheet_of(text: &[u8]) -> Result<Vec<u8>, Refusal> {
     measured(|out| read(text, out))
 }
 
+/// A line that a record carries on, or a branch that it adds: its column before the record and the part's header column, from 1, and its voice.
+#[derive(Clone, Copy, Debug, PartialEq, Eq)]
+pub struct Holder {
+    pub column: u64,
+    /// None of the last, the branch that finds none.
+    pub voice: Option<u64>,
+    pub header: u64,
+}
+
+/// The lines and branches that fill the staff of a text that is refused with 8, five of them; none of any other text.
+pub fn filling(text: &[u8]) -> Vec<Holder> {
+    match proved::read_lines(text, &mut []) {
+        (8, lines) => lines.chunks(3).map(|l| Holder { column: l[0], voice: Some(l[1]).filter(|v| *v < 4), header: l[2] }).collect(),
+        _ => Vec::new(),
+    }
+}
+
 /// Fills a hole of so many ticks, at so many divisions to the quarter, with hidden rests in a lent buffer, for a voice of so many notes;
 /// answers the length of their NOTE records. The buffer is as after [`read`].
 pub fn gap_rests(ticks: u32, divisions: u32, notes: u32, out: &mut [u8]) -> Result<usize, Refusal> {

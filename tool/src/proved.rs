@@ -2,6 +2,7 @@
 
 unsafe extern "C" {
     fn kern_read(text: *const u8, text_len: usize, out: *mut u8, out_len: usize, answer: *mut [u64; 3]) -> u32;
+    fn kern_read_lines(text: *const u8, text_len: usize, out: *mut u8, out_len: usize, answer: *mut [u64; 3], lines: *mut [u64; 15]) -> u32;
     fn kern_gap_rests(ticks: u32, divisions: u32, notes: u32, out: *mut u8, out_len: usize, answer: *mut [u64; 3]) -> u32;
     fn kern_notice_code(number: u8, out: *mut u8, out_len: usize) -> usize;
     fn kern_notice_reason(number: u8, out: *mut u8, out_len: usize) -> usize;
@@ -14,6 +15,14 @@ pub fn read(text: &[u8], out: &mut [u8]) -> (u32, [u64; 3]) {
     // SAFETY: a slice's address is never null and goes with its own length; `text` is lent unchanged, and `out` and `answer` alone to this call.
     let number = unsafe { kern_read(text.as_ptr(), text.len(), out.as_mut_ptr(), out.len(), &mut answer) };
     (number, answer)
+}
+
+/// The refusal's number or 0, and the lines that fill the staff of a text that is refused with 8: column, voice and header column of each.
+pub fn read_lines(text: &[u8], out: &mut [u8]) -> (u32, [u64; 15]) {
+    let (mut answer, mut lines) = ([0; 3], [0; 15]);
+    // SAFETY: a slice's address is never null and goes with its own length; `text` is lent unchanged, and `out`, `answer` and `lines` alone to this call.
+    let number = unsafe { kern_read_lines(text.as_ptr(), text.len(), out.as_mut_ptr(), out.len(), &mut answer, &mut lines) };
+    (number, lines)
 }
 
 /// The same of the rests of a hole.

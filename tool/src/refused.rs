@@ -21,7 +21,19 @@ pub fn message(text: &[u8], refusal: Refusal) -> String {
     if refusal.number == 6 {
         said += &format!("active spines: {}\n", row_at(text, refusal.line).len());
     }
+    if refusal.number == 8 {
+        said += &full(text);
+    }
     said + &format!("number {}, line {}, figure {}", refusal.number, refusal.line, refusal.figure)
+}
+
+/// Which lines fill the staff.
+fn full(text: &[u8]) -> String {
+    let lines = ruevault::filling(text);
+    let header = lines.first().map_or(0, |l| l.header);
+    let holders: Vec<String> = lines.iter().filter_map(|l| l.voice.map(|v| format!("column {} (voice {v})", l.column))).collect();
+    let last = lines.last().map_or(0, |l| l.column);
+    format!("header column {header} is full with {}; the branch of column {last} finds no voice\n", holders.join(", "))
 }
 
 fn place_of(text: &[u8], refusal: Refusal) -> Option<Place<'_>> {

@@ -99,7 +99,7 @@ fn path_records_are_under_the_open_bar() {
 fn refused_with_8() {
     let said = refused(b"**kern\n*^\n*^\t*^\n*\t*^\t*\t*\n");
     assert!(said.contains("more than four lines"));
-    assert!(said.ends_with("line 4: *\t*^\t*\t*\n         \t^\nnumber 8, line 4, figure 0\n"), "{said}");
+    assert!(said.ends_with("line 4: *\t*^\t*\t*\n         \t^\nheader column 1 is full with column 1 (voice 0), column 2 (voice 2), column 3 (voice 1), column 4 (voice 3); the branch of column 2 finds no voice\nnumber 8, line 4, figure 0\n"), "{said}");
 }
 
 /// Two branches, of which the first takes the voice that the line beside it frees.

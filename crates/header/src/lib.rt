@@ -175,7 +175,7 @@ fn lay_row(table: [Active; 256], columns: usize, row: &mut [u16])
 }
 
 // The first row, and how many parts it has.
-fn fill_row(line: &[u8], row: &mut [u16]) -> usize
+pub fn fill_row(line: &[u8], row: &mut [u16]) -> usize
     requires { ⌜ (length (now row) ≡ 512) × (length (tokensOf (now line)) ≤ 256) ⌝ }
     ensures { λ r. ⌜ (rowOf (take (length (tokensOf (now (line .entry)))) (now (row .exit))) ≡ headerRow (map isKern (tokensOf (now (line .entry))))) × ((r ≡ length (freshParts 0 (map isKern (tokensOf (now (line .entry)))))) × (r ≤ 256)) ⌝ }
 {

@@ -2,3 +2,4 @@
 pub mod AnswerLaws
 pub mod WordLaws
 pub mod GapLaws
+pub mod LineLaws

@@ -1,4 +1,5 @@
 // The reader for C and Rust. A slice is passed as its address and its length.
+pub mod causes;
 pub mod rests;
 
 use reader::Answer;

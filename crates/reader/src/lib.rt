@@ -95,7 +95,7 @@ fn finish_text(begun: bool, parts: &mut [u32], tally: Tally, out: &mut [u8]) -> 
 }
 
 // The line from one index to another, without its trailing CRs.
-fn line_of(text: &[u8], from: usize, end: usize) -> &[u8]
+pub fn line_of(text: &[u8], from: usize, end: usize) -> &[u8]
     requires { ⌜ (from ≤ end) × (end ≤ length (now text)) ⌝ }
     ensures { λ r. ⌜ now r ≡ withoutCRs (take (end - from) (drop from (now (text .entry)))) ⌝ }
 {
@@ -119,7 +119,7 @@ fn is_passed(kind: Kind) -> bool
 }
 
 // How many cells an array has for the row.
-fn room(row: &[u16]) -> usize
+pub fn room(row: &[u16]) -> usize
     ensures { λ r. ⌜ r ≡ length (now (row .entry)) ⌝ }
 {
     row.len()

@@ -24,7 +24,7 @@ enum Left {
 struct Emission(usize, u16, u16, Left);
 
 // A token, and where the next one begins.
-struct Token(PathToken, usize);
+pub struct Token(pub PathToken, pub usize);
 
 // n, but at most top.
 pub fn at_most(n: usize, top: usize) -> usize
@@ -41,7 +41,7 @@ fn at_or(s: &[u16], i: usize, d: u16) -> u16
 }
 
 // The token that begins at `from`, where n are still wanted; an ordinary one where the line has none left.
-fn token_at(line: &[u8], from: usize, n: usize) -> Token
+pub fn token_at(line: &[u8], from: usize, n: usize) -> Token
     ensures { λ r. ⌜ Ahead (now (line .entry)) from n (r .0) (r .1) ⌝ }
 {
     if n == 0 {
