@@ -1,3 +1,5 @@
+#![tactic(auto)]
+
 // Barline records, the end of a text, and the closing of bars.
 ghost use Rattle.std.specs.Prelude.{◌≡◌, cond, List, [], ◌∷◌, ◌++◌, map, reverse, ℕ, ◌+◌, ◌≤◌, ◌<◌, eqb, length};
 ghost use Rattle.slices.specs.Split.{piece_at};
@@ -19,7 +21,7 @@ use sheet::{Bar, End, Part, Span};
 use state::Tally;
 
 // Where a token of a line begins, and how long it is.
-#[derive(Drop)]
+#[derive(Clone, Copy)]
 struct Place(usize, usize);
 
 // Whether any of the parts has a note since the last closing.

@@ -1,3 +1,5 @@
+#![tactic(auto)]
+
 // Data records: their tokens, column by column.
 ghost use Rattle.std.specs.Prelude.{◌≡◌, true, ℕ, ◌+◌, ◌-◌, ◌^◌, ◌≤◌, ◌<◌, length, take, drop};
 ghost use Rattle.slices.specs.Split.{pieces, piece_at};
@@ -32,7 +34,7 @@ fn spot_at(cell: u16, index: usize, line: u32, at: u32) -> Spot
 }
 
 // Where a token stands in its record: its column from 0, where it begins and ends, and the line's number and offset.
-#[derive(Drop)]
+#[derive(Clone, Copy)]
 struct Column {
     index: usize,
     from: usize,
@@ -42,7 +44,7 @@ struct Column {
 }
 
 // What a record gives its bare columns: not asked for yet, or a value, Missing where the others don't agree.
-#[derive(Drop)]
+#[derive(Clone, Copy)]
 enum Asked {
     Unasked,
     Given(Value),
@@ -117,7 +119,7 @@ fn read_column(
 // ---- columns read at one go
 
 // Where a stretch of columns ends: the next column and where its token begins, the notes so far and the place behind them.
-#[derive(Drop)]
+#[derive(Clone, Copy)]
 struct Stretch {
     from: usize,
     index: usize,

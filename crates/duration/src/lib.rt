@@ -1,10 +1,12 @@
+#![tactic(auto)]
+
 // Durations: the value that a reciprocal writes, and how long a note lasts.
 ghost use Rattle.std.specs.Prelude.{◌≡◌, true, List, ℕ, ◌+◌, ◌<◌, ◌≤◌, ◌^◌, length};
 ghost use Rattle.duration.specs.Duration.{digits, number, number_of, gcd_of, written, duration_of};
 ghost use Rattle.duration.specs.Length.{value_length, dot_factor, tuplet_factor, note_length};
 
 // A written value (0 longa, 1 breve, 2 whole, .. 9 128th) with its tuplet.
-#[derive(Drop)]
+#[derive(Clone, Copy)]
 pub enum Value {
     Missing,
     Plain(u8),
@@ -12,14 +14,14 @@ pub enum Value {
 }
 
 // A length in whole notes: a pair of whole numbers.
-#[derive(Drop)]
+#[derive(Clone, Copy)]
 pub struct Length {
     pub numerator: u32,
     pub denominator: u32,
 }
 
 // What decimal digits write; Not where a byte is no digit.
-#[derive(Drop)]
+#[derive(Clone, Copy)]
 enum Number {
     Is(u32),
     Not,

@@ -1,1 +1,3 @@
+#![tactic(auto)]
+
 // Every record of the sheet has room in its fields.

@@ -1,3 +1,5 @@
+#![tactic(auto)]
+
 // A hole of so many ticks, written as hidden rests.
 ghost use Rattle.std.specs.Prelude.{◌≡◌, ℕ, ◌-◌, ◌≤◌, ◌<◌};
 ghost use Rattle.slices.specs.Store.{stored};
@@ -12,7 +14,7 @@ ghost use Rattle.gap.specs.declared.Answer.TheVariants.{Refused, Accepted};
 use sheet::Note;
 
 // A refusal with number, line and figure, or an acceptance with the length of the rests.
-#[derive(Drop)]
+#[derive(Clone, Copy)]
 pub enum Answer {
     Refused {
         number: usize,
@@ -23,7 +25,7 @@ pub enum Answer {
 }
 
 // The next rest of a hole, with the ticks that it takes; None where no value serves.
-#[derive(Drop)]
+#[derive(Clone, Copy)]
 enum Next {
     None,
     Rest {
@@ -35,7 +37,7 @@ enum Next {
 }
 
 // What a hole comes to: the number that turns it away, or how many rests.
-#[derive(Drop)]
+#[derive(Clone, Copy)]
 enum Count {
     Turned(usize),
     Rests(usize),

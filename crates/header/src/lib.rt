@@ -1,3 +1,5 @@
+#![tactic(auto)]
+
 // Reference records, and the header: the first row and its parts.
 ghost use Rattle.std.specs.Prelude.{◌≡◌, Bool, List, [], ◌∷◌, map, ℕ, ◌+◌, ◌≤◌, ◌<◌, ◌^◌, length, take, set, replicate};
 ghost use Rattle.lines.specs.Tokens.{tokens_of, is_kern, is_exclusive};
@@ -99,11 +101,11 @@ fn all_exclusive(line: &[u8]) -> bool
 }
 
 // A column of the header: its spine, and how many parts there are then.
-#[derive(Drop)]
+#[derive(Clone, Copy)]
 struct Column(Active, usize);
 
 // The header's table of active spines, and how many columns and parts it has.
-#[derive(Drop)]
+#[derive(Clone, Copy)]
 struct Table {
     spines: [Active; 256],
     columns: usize,

@@ -1,3 +1,5 @@
+#![tactic(auto)]
+
 // Which lines of a part fill its staff where a record splits one more: the columns that carry a line on, then the branches.
 ghost use Rattle.std.specs.Prelude.{◌≡◌, [], map, ◌<◌, ◌&&◌, false, length};
 ghost use Rattle.lines.specs.Tokens.{tokens_of, is_kern};
@@ -9,7 +11,7 @@ ghost use Rattle.holders.specs.Voice.{has, free_voice};
 use paths::PathToken;
 
 // A line or a branch of a part: its column before the record, its voice (4 for none), and the part's header column; columns from 1.
-#[derive(Drop)]
+#[derive(Clone, Copy)]
 pub struct Holder {
     pub column: usize,
     pub voice: usize,
@@ -17,7 +19,7 @@ pub struct Holder {
 }
 
 // The first `count` of them, at most five.
-#[derive(Drop)]
+#[derive(Clone, Copy)]
 pub struct Holders {
     pub count: usize,
     pub list: [Holder; 5],

@@ -4,7 +4,7 @@ ghost use Rattle.interpretation.specs.Digits.{is_digit};
 ghost use Rattle.interpretation.specs.Number.{number_up_to};
 
 // A number that was read, or none.
-#[derive(Drop)]
+#[derive(Clone, Copy)]
 pub enum Number {
     Is(u64),
     Not,

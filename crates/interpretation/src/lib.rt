@@ -1,3 +1,5 @@
+#![tactic(auto)]
+
 // What a tandem interpretation says of its part, read as the source's `apply_interpretation` reads it.
 pub mod clef;
 pub mod digits;
@@ -10,7 +12,7 @@ ghost use Rattle.std.specs.Prelude.{◌≡◌, drop};
 ghost use Rattle.interpretation.specs.Interpretation.{meter_mark, is_attribute, other_of, meaning_of, interpretation_of};
 
 // The numbers are those of document 01's sheet.
-#[derive(Drop)]
+#[derive(Clone, Copy)]
 pub enum Interpretation {
     // A star alone.
     Nothing,

@@ -1,10 +1,12 @@
+#![tactic(auto)]
+
 // A token as items: runs of digits, runs of one letter, blanks, and single bytes.
 ghost use Rattle.std.specs.Prelude.{◌≡◌, true, ◌+◌, ◌<◌, length, get_or, drop};
 ghost use Rattle.items.specs.Items.{is_digit, is_letter, joins, item_of, first, next_item};
 
 use duration::Value;
 
-#[derive(Drop)]
+#[derive(Clone, Copy)]
 pub enum Item {
     Digits(Value),
     Letters { letter: u8, count: usize },
@@ -13,7 +15,7 @@ pub enum Item {
 }
 
 // An item, and the index behind it.
-#[derive(Drop)]
+#[derive(Clone, Copy)]
 pub struct Next {
     pub item: Item,
     pub end: usize,

@@ -1,3 +1,5 @@
+#![tactic(auto)]
+
 // Reads a text of Humdrum **kern from standard input, 32,768 bytes at most, and writes its sheet to standard output; or number, line
 // and figure of its refusal, or `long`.
 use reader::Answer;

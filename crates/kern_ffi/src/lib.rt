@@ -1,3 +1,5 @@
+#![tactic(auto)]
+
 // The reader for C and Rust. A slice is passed as its address and its length.
 pub mod causes;
 pub mod rests;

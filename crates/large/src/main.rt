@@ -1,3 +1,5 @@
+#![tactic(auto)]
+
 // Question 1: a text of 67,108,865 bytes, one more than are allowed, is refused before any of them is looked at. Number, line and figure, and
 // then the lent buffer, which is as it was.
 use reader::Answer;

@@ -1,3 +1,5 @@
+#![tactic(auto)]
+
 // Answers requests about the reader's leaves, a request and an answer to a line. The first byte of a request names the leaf.
 use duration::Value;
 use gap::Answer;

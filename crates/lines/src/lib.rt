@@ -1,10 +1,12 @@
+#![tactic(auto)]
+
 // A text as lines and tokens, and what a line or a token is.
 ghost use Rattle.std.specs.Prelude.{◌≡◌, ◌+◌, ◌≤◌, true, length, get_or};
 ghost use Rattle.lines.specs.Lines.{piece_end, without_crs, kind_of};
 ghost use Rattle.lines.specs.Tokens.{tokens_of, is_null, is_kern, is_exclusive, is_star, is_empty};
 
 // What a line begins with.
-#[derive(Drop)]
+#[derive(Clone, Copy)]
 pub enum Kind {
     Empty,
     Reference,

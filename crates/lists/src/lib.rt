@@ -1,3 +1,5 @@
+#![tactic(auto)]
+
 // The lists of a token, written at the start of a buffer.
 ghost use Rattle.std.specs.Prelude.{◌≡◌, false, [], ◌∷◌, ◌+◌, ◌≤◌, length};
 ghost use Rattle.std.proofs.lemmas.List.Edits.{sets};

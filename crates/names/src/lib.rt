@@ -1,3 +1,5 @@
+#![tactic(auto)]
+
 // The name shown for a part.
 ghost use Rattle.std.specs.Prelude.{◌≡◌};
 ghost use Rattle.names.specs.Names.{fallback_names, name_of};

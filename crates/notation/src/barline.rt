@@ -4,7 +4,7 @@ ghost use Rattle.notation.specs.Barline.{barline_number, right_of, left_of, barl
 
 use crate::bytes;
 
-#[derive(Drop)]
+#[derive(Clone, Copy)]
 pub enum Barline {
     Normal,
     Double,
@@ -15,7 +15,7 @@ pub enum Barline {
 }
 
 // The barline that closes a bar, and the one that the next bar begins with.
-#[derive(Drop)]
+#[derive(Clone, Copy)]
 pub struct Barlines {
     pub right: Barline,
     pub left: Barline,

@@ -3,7 +3,7 @@ ghost use Rattle.std.specs.Prelude.{◌≡◌, ◌||◌, eqb};
 ghost use Rattle.notation.specs.Beam.{letters_of, beamed, beam_number};
 
 // A note's place under a beam.
-#[derive(Drop)]
+#[derive(Clone, Copy)]
 pub enum Mark {
     None,
     Begin,
@@ -12,20 +12,20 @@ pub enum Mark {
 }
 
 // A voice's state: whether a beam is held open.
-#[derive(Drop)]
+#[derive(Clone, Copy)]
 pub struct Beam {
     pub held: bool,
 }
 
 // A note's mark, and the voice's state behind the note.
-#[derive(Drop)]
+#[derive(Clone, Copy)]
 pub struct Beamed {
     pub mark: Mark,
     pub state: Beam,
 }
 
 // Whether a token has a letter that starts a beam, and one that ends it.
-#[derive(Drop)]
+#[derive(Clone, Copy)]
 pub struct Letters {
     pub starts: bool,
     pub ends: bool,

@@ -1,3 +1,5 @@
+#![tactic(auto)]
+
 // A token of a kern line: its notices and its NOTE.
 ghost use Rattle.std.specs.Prelude.{◌≡◌, cond, List, ℕ, ◌+◌, ◌^◌, ◌≤◌, ◌<◌, length, get_or, set};
 ghost use Rattle.notation.specs.Beam.{beam_number};
@@ -23,7 +25,7 @@ use token::outcome::{Note, Outcome};
 use token::scan::Scan;
 
 // Where a token stands: its part and voice, line and column from 1, and its offset in the text.
-#[derive(Drop)]
+#[derive(Clone, Copy)]
 pub struct Spot {
     pub part: usize,
     pub voice: usize,

@@ -1,9 +1,11 @@
+#![tactic(auto)]
+
 // The code and the reason of each notice, from one table.
 ghost use Rattle.std.specs.Prelude.{◌≡◌};
 ghost use Rattle.notice.specs.Table.{wording, row_of, code_in, reason_in};
 
 // Where a notice's code stands in the wording, its length, and that of the reason, which follows it.
-#[derive(Drop)]
+#[derive(Clone, Copy)]
 pub struct Row(pub u16, pub u16, pub u16);
 
 const ROWS: [Row; 22] = [

@@ -1,3 +1,5 @@
+#![tactic(auto)]
+
 // The length that a token without one takes from its record.
 ghost use Rattle.std.specs.Prelude.{◌≡◌, false, ◌||◌, cond, ◌+◌, ◌≤◌, eqb, leb, length};
 ghost use Rattle.slices.specs.Compare.{same_bytes};
@@ -10,14 +12,14 @@ use duration::Value;
 use items::Item;
 
 // The digits that the neighbours offer: nothing, or a piece of the line.
-#[derive(Drop)]
+#[derive(Clone, Copy)]
 pub enum Peer {
     Nothing,
     At { at: usize, len: usize },
 }
 
 // What was met so far: no neighbour; one, or more, whose digits are that piece of the line; or neighbours that don't agree.
-#[derive(Drop)]
+#[derive(Clone, Copy)]
 pub enum Found {
     Empty,
     One { at: usize, len: usize },
@@ -26,7 +28,7 @@ pub enum Found {
 }
 
 // What one pass over the columns keeps: whether a kern column that offers nothing was met, and what the others offer.
-#[derive(Drop)]
+#[derive(Clone, Copy)]
 pub struct Summary {
     lacking: bool,
     found: Found,

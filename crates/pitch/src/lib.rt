@@ -1,8 +1,10 @@
+#![tactic(auto)]
+
 // The pitch that a run of one letter writes, and the accidentals behind it.
 ghost use Rattle.std.specs.Prelude.{◌≡◌};
 ghost use Rattle.pitch.specs.Pitch.{within, pitch_of, altered_by, twos_complement};
 
-#[derive(Drop)]
+#[derive(Clone, Copy)]
 pub enum Pitch {
     At { step: u8, octave: u8 },
     Outside,

@@ -1,8 +1,10 @@
+#![tactic(auto)]
+
 // The reader's place in a text: the offset at which a line begins, and how many lines stand before it.
 ghost use Rattle.std.specs.Prelude.{◌≡◌, ◌+◌, ◌≤◌, ◌<◌, ◌^◌, length};
 ghost use Rattle.lines.specs.Lines.{piece_end};
 
-#[derive(Drop)]
+#[derive(Clone, Copy)]
 pub struct Place {
     pub at: usize,
     pub line: u32,

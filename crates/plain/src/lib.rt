@@ -1,3 +1,5 @@
+#![tactic(auto)]
+
 // Tokens of the usual shape, read at one go: a null token; or opening marks, digits, dots, a pitch with its signs or a rest, and marks.
 ghost use Rattle.std.specs.Prelude.{◌≡◌, true, false, ◌≤◌, [], ◌∷◌, length};
 ghost use Rattle.notation.specs.Bytes.{contains};
@@ -10,7 +12,7 @@ use token::outcome::Note;
 use token::pitches::Tone;
 
 // A note of one pitch or a rest, whether L and J and unknown marks stand in its token, and where the token ends.
-#[derive(Drop)]
+#[derive(Clone, Copy)]
 pub struct Plain {
     pub note: Note,
     pub tone: Tone,
@@ -21,7 +23,7 @@ pub struct Plain {
 }
 
 // Any other token, a null token that ends at an index, or a note.
-#[derive(Drop)]
+#[derive(Clone, Copy)]
 pub enum Shape {
     Other,
     Null(usize),
@@ -29,7 +31,7 @@ pub enum Shape {
 }
 
 // What the opening marks say, and where they end.
-#[derive(Drop)]
+#[derive(Clone, Copy)]
 struct Opening {
     ties: bool,
     slurs: bool,
@@ -37,7 +39,7 @@ struct Opening {
 }
 
 // What the marks say, and where they end.
-#[derive(Drop)]
+#[derive(Clone, Copy)]
 struct Marked {
     ties: bool,
     tied: bool,
@@ -51,14 +53,14 @@ struct Marked {
 }
 
 // The number that digits write, and where they end.
-#[derive(Drop)]
+#[derive(Clone, Copy)]
 struct Reciprocal {
     number: u32,
     end: usize,
 }
 
 // A length in parts; `missing` says that there is none.
-#[derive(Drop)]
+#[derive(Clone, Copy)]
 struct Valued {
     missing: bool,
     value: u8,
@@ -67,14 +69,14 @@ struct Valued {
 }
 
 // An alteration, and where its signs end.
-#[derive(Drop)]
+#[derive(Clone, Copy)]
 struct Signed {
     alter: u8,
     end: usize,
 }
 
 // A rest or a pitch, and where it ends; `no` says that there is none.
-#[derive(Drop)]
+#[derive(Clone, Copy)]
 struct Sung {
     no: bool,
     rest: bool,

@@ -1,3 +1,5 @@
+#![tactic(auto)]
+
 // Reads a text of Humdrum **kern into a sheet in a lent buffer: once to measure, and once to write.
 ghost use Rattle.std.specs.Prelude.{◌≡◌, ℕ, ◌+◌, ◌-◌, ◌≤◌, ◌<◌, ◌^◌, false, List, length, take, drop};
 ghost use Rattle.utf8.specs.Utf8.{utf8_length};
@@ -19,7 +21,7 @@ use sheet::{Head, Span};
 use state::{Step, Tally};
 
 // A refusal with number, line and figure, or an acceptance with the sheet's length.
-#[derive(Drop)]
+#[derive(Clone, Copy)]
 pub enum Answer {
     Refused {
         number: usize,
@@ -30,7 +32,7 @@ pub enum Answer {
 }
 
 // What one reading comes to: a refusal, or the counts of parts and notes and the length of the records.
-#[derive(Drop)]
+#[derive(Clone, Copy)]
 enum Finish {
     Refused {
         number: usize,

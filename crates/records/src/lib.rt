@@ -1,3 +1,5 @@
+#![tactic(auto)]
+
 // One line of a text: its kind, its repair, and what it comes to.
 ghost use Rattle.std.specs.Prelude.{◌≡◌, ◌||◌, List, ℕ, ◌+◌, ◌<◌, ◌^◌, length, take};
 ghost use Rattle.lines.specs.Lines.{kind_of};

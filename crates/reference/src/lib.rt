@@ -1,3 +1,5 @@
+#![tactic(auto)]
+
 // Reference records, `!!!key: value`: the key and the value, without the white space around them.
 ghost use Rattle.std.specs.Prelude.{◌≡◌, true, [], ◌∷◌, ◌+◌, ◌-◌, ◌≤◌, ◌<◌, length, take, drop};
 ghost use Rattle.slices.specs.Compare.{same_bytes};
@@ -5,7 +7,7 @@ ghost use Rattle.reference.specs.Trim.{white, width, At, leading_white, trimmed_
 ghost use Rattle.reference.specs.Reference.{key_of, span_of, reference_of};
 
 // What a reference record's key names.
-#[derive(Drop)]
+#[derive(Clone, Copy)]
 pub enum Key {
     Title,
     Composer,
@@ -14,14 +16,14 @@ pub enum Key {
 }
 
 // A piece of a text; the empty one is 0, 0.
-#[derive(Drop)]
+#[derive(Clone, Copy)]
 pub struct Span {
     pub at: usize,
     pub len: usize,
 }
 
 // A reference record: its key and its value as pieces of the record behind `!!!`.
-#[derive(Drop)]
+#[derive(Clone, Copy)]
 pub struct Reference {
     pub key: Key,
     pub key_at: usize,
@@ -52,7 +54,7 @@ fn width(s: &[u8]) -> usize
 }
 
 // A character of a text: where its bytes end, and whether it is white.
-#[derive(Drop)]
+#[derive(Clone, Copy)]
 struct Turn {
     next: usize,
     blank: bool,

@@ -1,3 +1,5 @@
+#![tactic(auto)]
+
 // A record repaired to the number of active spines, and what questions 6 and 7 say of it.
 ghost use Rattle.std.specs.Prelude.{◌≡◌, ◌&&◌, not, take, drop};
 ghost use Rattle.slices.specs.Split.{pieces};
@@ -8,7 +10,7 @@ ghost use Rattle.repair.specs.Repair.{each, first_of, is_ordinary, identical_bar
 use paths::PathToken;
 
 // What is done to a record: nothing, surplus empty tokens cut, filled with `*`, filled with its barline.
-#[derive(Drop)]
+#[derive(Clone, Copy)]
 pub enum Repair {
     Whole,
     Cut,
@@ -17,7 +19,7 @@ pub enum Repair {
 }
 
 // Stopped by question 6 with the record's own count of tokens, by question 7, or even, after a repair.
-#[derive(Drop)]
+#[derive(Clone, Copy)]
 pub enum Repaired {
     Uneven(usize),
     Mixed,

@@ -1,3 +1,5 @@
+#![tactic(auto)]
+
 // Answers with the row that star records make of a header, a request and an answer to a line. A request is `V`, a letter for each header
 // column (`k` kern, `o` another), and the records, each behind a `|`. The answer has part and voice of each column, `-` outside
 // kern, or the number of the question that stops the reading, 17 with its column.

@@ -1,3 +1,5 @@
+#![tactic(auto)]
+
 // One pass over a token, and what becomes of it.
 pub mod outcome;
 
@@ -14,7 +16,7 @@ use pitch::Pitch;
 use token::scan::{Given, Scan};
 
 // Whether digits stand before in the sub-token, and right before; whether a length was bad.
-#[derive(Drop)]
+#[derive(Clone, Copy)]
 pub struct Lengths {
     pub had: bool,
     pub behind: bool,
@@ -22,7 +24,7 @@ pub struct Lengths {
 }
 
 // What the first sub-token says so far.
-#[derive(Drop)]
+#[derive(Clone, Copy)]
 pub struct First {
     pub begun: bool,
     pub over: bool,
@@ -32,7 +34,7 @@ pub struct First {
 }
 
 // Whether the sub-token has a pitch; how many pitches and signifiers there were.
-#[derive(Drop)]
+#[derive(Clone, Copy)]
 pub struct Sounds {
     pub sounding: bool,
     pub pitches: usize,
@@ -40,7 +42,7 @@ pub struct Sounds {
 }
 
 // What the single bytes say so far.
-#[derive(Drop)]
+#[derive(Clone, Copy)]
 pub struct Marks {
     pub ties: bool,
     pub tied: bool,

@@ -1,3 +1,5 @@
+#![tactic(auto)]
+
 // A byte searched and counted in a slice, by blocks of bytes.
 ghost use Rattle.std.specs.Prelude.{◌≡◌, cond, ℕ, min, ◌+◌, ◌≤◌, ◌<◌, eqb, length, drop, get_or};
 ghost use Rattle.slices.specs.Split.{split, index_of};

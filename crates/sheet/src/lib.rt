@@ -1,17 +1,19 @@
+#![tactic(auto)]
+
 // The records of the sheet, version 1: their fields, and a writer for each.
 ghost use Rattle.std.specs.Prelude.{◌≡◌};
 ghost use Rattle.slices.specs.Store.{stored};
 ghost use Rattle.sheet.specs.Record.{span_of, head_bytes, note_bytes, pitch_bytes, bar_bytes, part_bytes, end_bytes, notice_bytes};
 
 // A piece of the text.
-#[derive(Drop)]
+#[derive(Clone, Copy)]
 pub struct Span {
     pub at: u32,
     pub len: u32,
 }
 
 // The head, with the sheet's length in bytes and the count of its NOTEs.
-#[derive(Drop)]
+#[derive(Clone, Copy)]
 pub struct Head {
     pub parts: u16,
     pub length: u32,
@@ -19,7 +21,7 @@ pub struct Head {
 }
 
 // The fixed bytes of a NOTE: pitches and articulations are the counts of what follows.
-#[derive(Drop)]
+#[derive(Clone, Copy)]
 pub struct Note {
     pub part: u8,
     pub voice: u8,
@@ -37,14 +39,14 @@ pub struct Note {
 }
 
 // A pitch of a NOTE; alter is in two's complement.
-#[derive(Drop)]
+#[derive(Clone, Copy)]
 pub struct Pitch {
     pub step: u8,
     pub octave: u8,
     pub alter: u8,
 }
 
-#[derive(Drop)]
+#[derive(Clone, Copy)]
 pub struct Bar {
     pub part: u8,
     pub right: u8,
@@ -60,7 +62,7 @@ pub struct Bar {
     pub tempo: u16,
 }
 
-#[derive(Drop)]
+#[derive(Clone, Copy)]
 pub struct Part {
     pub part: u8,
     pub named: u8,
@@ -69,7 +71,7 @@ pub struct Part {
     pub short: Span,
 }
 
-#[derive(Drop)]
+#[derive(Clone, Copy)]
 pub struct End {
     pub mode: u8,
     pub fifths: u8,
@@ -82,7 +84,7 @@ pub struct End {
 }
 
 // A NOTICE; for number 17 the bytes of its value follow.
-#[derive(Drop)]
+#[derive(Clone, Copy)]
 pub struct Notice {
     pub number: u8,
     pub column: u16,

@@ -1,3 +1,5 @@
+#![tactic(auto)]
+
 // Slices of bytes: searched, compared, and written at their start; and two tests as one.
 ghost use Rattle.std.specs.Prelude.{◌≡◌, ◌||◌, ◌≤◌, length};
 ghost use Rattle.slices.specs.Split.{index_of, piece_at};

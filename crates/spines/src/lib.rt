@@ -1,3 +1,5 @@
+#![tactic(auto)]
+
 // The row of spines, what a record's path tokens join, its next row by them, and the table of active spines.
 ghost use Rattle.std.specs.Prelude.{◌≡◌, ◌&&◌, not, cond, min, ◌*◌, ◌≤◌, ◌<◌, length, get_or, take};
 ghost use Rattle.paths.specs.Joins.{same_origin, mixed_run};
@@ -12,7 +14,7 @@ ghost use Rattle.spines.specs.Emit.{mode_of, behind_join, Emitted};
 use paths::PathToken;
 
 // What stands to the left of a column: nothing that matters, a `*v`, or the left one of two that exchange.
-#[derive(Drop)]
+#[derive(Clone, Copy)]
 enum Left {
     Nothing,
     Joined,
@@ -20,11 +22,11 @@ enum Left {
 }
 
 // What a token gives: how many of two cells, the cells, and what then stands to the left.
-#[derive(Drop)]
+#[derive(Clone, Copy)]
 struct Emission(usize, u16, u16, Left);
 
 // A token, and where the next one begins.
-#[derive(Drop)]
+#[derive(Clone, Copy)]
 pub struct Token(pub PathToken, pub usize);
 
 // n, but at most top.
@@ -136,7 +138,7 @@ pub fn next_row(line: &[u8], row: &[u16; 512], active: usize, next: &mut [u16; 5
 }
 
 // What the runs of `*v` join: lines of one origin each, or the first run that mixes origins begins in this column, from 1.
-#[derive(Drop)]
+#[derive(Clone, Copy)]
 pub enum Runs {
     Alike,
     Mixed(usize),
@@ -202,7 +204,7 @@ pub fn mixed_run(line: &[u8], row: &[u16; 512], active: usize) -> Runs
 }
 
 // An active spine: whether it is kern, and then its part and its voice.
-#[derive(Drop)]
+#[derive(Clone, Copy)]
 pub struct Active {
     pub kern: bool,
     pub part: u8,

@@ -1,3 +1,5 @@
+#![tactic(auto)]
+
 // Reads a text as `reader::read` does, and says of one that is refused with 8 which lines fill the staff.
 ghost use Rattle.std.specs.Prelude.{◌≡◌, ℕ, ◌≤◌, ◌<◌, ◌^◌, length, take};
 ghost use Rattle.lines.specs.Lines.{kind_of};
@@ -22,7 +24,7 @@ use reader::Answer;
 use voices::Step;
 
 // The reader's answer, and the lines that fill the staff: five of a text that is refused with 8, none of any other.
-#[derive(Drop)]
+#[derive(Clone, Copy)]
 pub struct Explained {
     pub answer: Answer,
     pub lines: Holders,
@@ -98,7 +100,7 @@ fn row_past(
 }
 
 // The spines before a line, and where it begins.
-#[derive(Drop)]
+#[derive(Clone, Copy)]
 struct Before {
     active: usize,
     at: usize,

@@ -1,3 +1,5 @@
+#![tactic(auto)]
+
 // Star records: what interpretations set, column by column, and the next row.
 ghost use Rattle.std.specs.Prelude.{◌≡◌, ◌&&◌, not, ℕ, ◌+◌, ◌-◌, ◌≤◌, ◌<◌, ◌^◌, List, length, take, get_or};
 ghost use Rattle.slices.specs.Split.{pieces};

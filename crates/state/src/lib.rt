@@ -1,3 +1,5 @@
+#![tactic(auto)]
+
 // What is known between two lines of a text: flat cells for the row and the parts, and the counts beside them.
 ghost use Rattle.std.specs.Prelude.{◌≡◌};
 ghost use Rattle.state.specs.Lay.{past};
@@ -6,7 +8,7 @@ ghost use Rattle.state.specs.Counts.{with_active};
 use sheet::Span;
 
 // Active spines and parts, bars closed, notes and kept notices, the first tempo, what the references set, and where the next record goes.
-#[derive(Drop)]
+#[derive(Clone, Copy)]
 pub struct Tally {
     pub active: usize,
     pub parts: usize,
@@ -21,7 +23,7 @@ pub struct Tally {
 }
 
 // What a line comes to: a refusal with number, line and figure, or counts with which the reading goes on or ends.
-#[derive(Drop)]
+#[derive(Clone, Copy)]
 pub enum Step {
     Refused {
         number: usize,

@@ -1,3 +1,5 @@
+#![tactic(auto)]
+
 // What an interpretation sets in the 35 cells of its part.
 ghost use Rattle.std.specs.Prelude.{◌≡◌, ℕ, ◌+◌, ◌-◌, ◌*◌, ◌≤◌, ◌<◌, ◌^◌, length, set, get_or};
 ghost use Rattle.sheet.specs.Record.{span_of};

@@ -1,3 +1,5 @@
+#![tactic(auto)]
+
 // Reads a list of texts, each behind its length in decimal and a LF, and writes for each the sheet's length, a LF, the sheet and a LF, or
 // number, line and figure of its refusal and a LF. A line of three numbers stands before a text that is too long for the list: so many bytes
 // once, so many behind them, and how often these come.

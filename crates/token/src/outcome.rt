@@ -1,7 +1,7 @@
 // What becomes of a token: nothing, a notice, or a note.
 
 // A note, without its lists, of which the lengths are given; 0, 0 is no tuplet. `inferred` says that its length was.
-#[derive(Drop)]
+#[derive(Clone, Copy)]
 pub struct Note {
     pub value: u8,
     pub actual: u8,
@@ -19,7 +19,7 @@ pub struct Note {
 }
 
 // Nothing, the number of the notice that a token without a note gives, or its note.
-#[derive(Drop)]
+#[derive(Clone, Copy)]
 pub enum Outcome {
     Silent,
     Unread(u8),

@@ -1,7 +1,7 @@
 // The pitches of a token.
 
 // A pitch: step (C 0 to B 6), octave, and its alteration with 128 added.
-#[derive(Drop)]
+#[derive(Clone, Copy)]
 pub struct Tone {
     pub step: u8,
     pub octave: u8,
@@ -9,7 +9,7 @@ pub struct Tone {
 }
 
 // The pitch of a sub-token so far.
-#[derive(Drop)]
+#[derive(Clone, Copy)]
 pub enum Sound {
     Silence,
     Of(Tone),

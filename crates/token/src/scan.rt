@@ -2,14 +2,14 @@
 use duration::Value;
 
 // The value of the first sub-token's digits.
-#[derive(Drop)]
+#[derive(Clone, Copy)]
 pub enum Given {
     Nothing,
     Length(Value),
 }
 
 // What a token says, without its lists, of which the lengths are given.
-#[derive(Drop)]
+#[derive(Clone, Copy)]
 pub struct Scan {
     pub bad: bool,
     pub silent: bool,

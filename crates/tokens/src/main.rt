@@ -1,3 +1,5 @@
+#![tactic(auto)]
+
 // Answers what becomes of the last token of a record whose columns are all kern, a request and an answer to a line: `T` and the record.
 // The answer has the token's notices, 17 with its bytes, and then its note: value, actual, normal, dots, flags, beam, the bytes of its
 // pitches and its articulations.

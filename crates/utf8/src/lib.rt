@@ -1,3 +1,5 @@
+#![tactic(auto)]
+
 // UTF-8 by RFC 3629: the length of the well-formed part of a text, and the character at its front.
 ghost use Rattle.std.specs.Prelude.{◌≡◌, cond, ◌∷◌, ℕ, ◌+◌, ◌-◌, ◌*◌, ◌%◌, ◌≤◌, ◌<◌, length, drop, get_or};
 ghost use Rattle.utf8.specs.Utf8.{tails, begins, char_length, utf8_length, Passed, code_point};

@@ -1,3 +1,5 @@
+#![tactic(auto)]
+
 // Voices for the branches of a row, and what a star record makes of the row.
 ghost use Rattle.std.specs.Prelude.{◌≡◌, min, ◌*◌, ◌/◌, ◌%◌, ◌+◌, ◌≤◌, ◌<◌, length, take};
 ghost use Rattle.paths.specs.Voices.{holds, lowest, voice_row, next, narrow, step_row};
@@ -9,7 +11,7 @@ ghost use Rattle.voices.specs.Outcome.{given_of, outcome_of, active_after};
 use spines::Runs;
 
 // What a search for a voice finds.
-#[derive(Drop)]
+#[derive(Clone, Copy)]
 enum Found {
     Voice(u8),
     Full,
@@ -109,7 +111,7 @@ fn mark(cells: &[u16], masks: &mut [u8])
 }
 
 // Every branch has a voice, or the part of the first that finds none.
-#[derive(Drop)]
+#[derive(Clone, Copy)]
 pub enum Given {
     All,
     Without(u16),
@@ -152,7 +154,7 @@ fn give_of(next: &mut [u16], count: usize, masks: &mut [u8]) -> Given
 }
 
 // What a star record comes to: the next row's count; question 17 with a column; question 8 with a part; question 9 with a count.
-#[derive(Drop)]
+#[derive(Clone, Copy)]
 pub enum Step {
     Next(usize),
     Mixed(usize),

@@ -1,3 +1,5 @@
+#![tactic(auto)]
+
 // The sheet's records, each written into the unwritten end of a lent buffer, where it fits.
 ghost use Rattle.std.specs.Prelude.{◌≡◌, [], ◌∷◌, ◌+◌, ◌*◌, ◌<◌, ◌≤◌, ◌^◌, length};
 ghost use Rattle.std.proofs.lemmas.List.Edits.{sets};

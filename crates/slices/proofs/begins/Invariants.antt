@@ -1,0 +1,13 @@
+-- `begins` meets its contract. Assumes nothing.
+use mathlib.Core.Path.{refl, sym}
+use Prim.Native.Nat.{◌-◌}
+use native.Mathlib.Omega.{arith}
+use lib.ListN.{length}
+use Rattle.slices.proofs.CompareLaws.{begins_short, Begins, begins_turn, begins_not, begins_past}
+use Rattle.slices.proofs.begins.Given as goal
+
+abbrev pub invariant-loop-i : goal.invariant-loop-i
+invariant-loop-i l = Begins l.p l.s l.i
+
+abbrev pub decreases-loop-i : goal.decreases-loop-i
+decreases-loop-i l = length l.p - l.i
