@@ -1,4 +1,4 @@
-/* Reads a short text: cc -Iinclude examples/read.c target/staticlib/libkern_ffi.a -o read */
+/* Reads a short text: cc -Iinclude examples/read.c crates/kern_ffi/out/libkern_ffi.a -o read */
 #include "kern.h"
 #include <stdio.h>
 #include <string.h>

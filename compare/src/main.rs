@@ -145,7 +145,7 @@ fn library(words: &[&str]) -> ExitCode {
 
 #[cfg(not(library))]
 fn library(_: &[&str]) -> ExitCode {
-    eprintln!("this is built without the proved library: `rt staticlib kern_ffi` makes it in target/staticlib (or name its folder in RUEVAULT_LIB), then build again");
+    eprintln!("this is built without the proved library: `rt lib` in crates/kern_ffi makes it in its out folder (or name its folder in RUEVAULT_LIB), then build again");
     ExitCode::from(2)
 }
 
