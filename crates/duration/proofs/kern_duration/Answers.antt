@@ -1,0 +1,15 @@
+-- `kern_duration`: the number and the length decide.
+use mathlib.Core.Path.{refl, sym, ◌∙◌}
+use Rattle.duration.proofs.Durations.{too_long, no_digits, parsed}
+use borrow.Author.Rules.{rules}
+use Rattle.duration.proofs.kern_duration.Goals as goal
+
+pub returns-then-digits-gt4 : goal.returns-then-digits-gt4
+returns-then-digits-gt4 c = too_long _ c.if-digits-gt4.true
+
+pub returns-in-Not : goal.returns-in-Not
+returns-in-Not c = no_digits _ (sym c.in-Not.is ∙ c.parse.ensures)
+
+pub returns-in-Is : goal.returns-in-Is
+returns-in-Is c = let p = parsed c.args.digits.now (sym c.in-Is.is ∙ c.parse.ensures) in
+    c.value_by.ensures c.args.digits.now p.0 p.1 refl
