@@ -1,6 +1,5 @@
 -- `among`: four bytes that are not b.
 use Rattle.search.proofs.BlockLaws.{none_four, unequal}
-use borrow.Author.Rules.{rules}
 use Rattle.search.proofs.among.Goals as goal
 
 pub returns : goal.returns

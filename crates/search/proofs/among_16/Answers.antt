@@ -1,6 +1,5 @@
 -- `among_16`: four times four bytes.
 use Rattle.search.proofs.BlockLaws.{none_parts}
-use borrow.Author.Rules.{rules}
 use Rattle.search.proofs.among_16.Goals as goal
 
 pub returns : goal.returns

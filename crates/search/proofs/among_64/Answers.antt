@@ -1,6 +1,5 @@
 -- `among_64`: four times sixteen bytes.
 use Rattle.search.proofs.BlockLaws.{none_parts}
-use borrow.Author.Rules.{rules}
 use Rattle.search.proofs.among_64.Goals as goal
 
 pub returns : goal.returns

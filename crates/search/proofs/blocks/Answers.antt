@@ -1,8 +1,4 @@
 -- `blocks`: no b stands from `from` up to i, which is its contract's record.
-use Prim.Native.Nat.{◌-◌}
-use native.Mathlib.Omega.{arith}
-use lib.ListN.{length}
-use Rattle.search.specs.Blocks.{Without}
 use Rattle.search.proofs.BlockLaws.{without_block}
 use Rattle.search.proofs.blocks.Goals as goal
 

@@ -1,8 +1,4 @@
 -- `blocks_64`: no b stands from `from` up to i, which is its contract's record.
-use Prim.Native.Nat.{◌-◌}
-use native.Mathlib.Omega.{arith}
-use lib.ListN.{length}
-use Rattle.search.specs.Blocks.{Without}
 use Rattle.search.proofs.BlockLaws.{without_first, without_block}
 use Rattle.search.proofs.blocks_64.Goals as goal
 

@@ -1,9 +1,6 @@
 -- `count`: n and m bytes b stand before i.
 use mathlib.Core.Path.{refl}
-use Prim.Native.Nat.{◌+◌, ◌-◌, ◌≤◌}
 use native.Mathlib.Omega.{arith}
-use lib.ListN.{length}
-use Rattle.search.specs.Blocks.{Hits}
 use Rattle.search.proofs.BlockLaws.{hits_first, hits_on, hits_all}
 use Rattle.search.proofs.count.Goals.{then-m-gt239, else-m-gt239}
 use Rattle.search.proofs.count.Goals as goal

@@ -1,11 +1,7 @@
 -- `count`: n and m bytes b stand before i.
-use mathlib.Core.Logic.{⊎_elim}
-use mathlib.Core.Path.{refl}
 use Prim.Native.Nat.{◌+◌, ◌-◌, ◌≤◌}
-use native.Mathlib.Omega.{arith}
 use lib.ListN.{length}
 use Rattle.search.specs.Blocks.{Hits}
-use Rattle.search.proofs.BlockLaws.{hits_first, hits_on, hits_all}
 use Rattle.search.proofs.count.Given as goal
 
 abbrev pub invariant-loop-i : goal.invariant-loop-i

@@ -1,7 +1,6 @@
 -- The first bytes one by one, at most 40; then the search in blocks.
-use Prim.Native.Nat.{◌-◌, ◌≤◌}
 use native.Mathlib.Omega.{arith}
-use Rattle.slices.proofs.SearchLaws.{Find, find_first, find_turn, find_done}
+use Rattle.slices.proofs.SearchLaws.{find_first, find_turn, find_done}
 use Rattle.search.proofs.BlockLaws.{find_short, find_long}
 use Rattle.search.proofs.find_far.Goals as goal
 

@@ -1,8 +1,6 @@
 -- The first bytes one by one, at most 40; then the search in blocks.
 use Prim.Native.Nat.{◌-◌, ◌≤◌}
-use native.Mathlib.Omega.{arith}
-use Rattle.slices.proofs.SearchLaws.{Find, find_first, find_turn, find_done}
-use Rattle.search.proofs.BlockLaws.{find_short, find_long}
+use Rattle.slices.proofs.SearchLaws.{Find}
 use Rattle.search.proofs.find_far.Given as goal
 
 abbrev pub invariant-loop-i : goal.invariant-loop-i

@@ -1,8 +1,4 @@
 -- `find_from`: no b stands from `from` up to i.
-use Prim.Native.Nat.{◌-◌}
-use native.Mathlib.Omega.{arith}
-use lib.ListN.{length}
-use Rattle.search.specs.Blocks.{Without}
 use Rattle.search.proofs.BlockLaws.{without_turn, without_done, without_past}
 use Rattle.search.proofs.find_from.Goals as goal
 

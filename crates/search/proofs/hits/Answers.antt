@@ -1,9 +1,6 @@
 -- `hits`: n bytes b stand from `from` up to i, which is its contract's record.
 use mathlib.Core.Path.{refl}
-use Prim.Native.Nat.{◌-◌}
 use native.Mathlib.Omega.{arith}
-use lib.ListN.{length}
-use Rattle.search.specs.Blocks.{Hits}
 use Rattle.search.proofs.BlockLaws.{hits_first, hits_one, hits_on, hits_past}
 use Rattle.search.proofs.hits.Goals as goal
 

@@ -1,10 +1,7 @@
 -- `hits`: n bytes b stand from `from` up to i, which is its contract's record.
-use mathlib.Core.Path.{refl}
 use Prim.Native.Nat.{◌-◌}
-use native.Mathlib.Omega.{arith}
 use lib.ListN.{length}
 use Rattle.search.specs.Blocks.{Hits}
-use Rattle.search.proofs.BlockLaws.{hits_first, hits_one, hits_on, hits_past}
 use Rattle.search.proofs.hits.Given as goal
 
 abbrev pub invariant-loop-i : goal.invariant-loop-i

@@ -2,7 +2,6 @@
 use mathlib.Core.Path.{refl}
 use native.Mathlib.Omega.{arith}
 use Rattle.search.proofs.BlockLaws.{hits_one, hits_on}
-use borrow.Author.Rules.{rules}
 use Rattle.search.proofs.sum_4.Goals as goal
 
 pub returns : goal.returns

@@ -1,0 +1,16 @@
+-- The length of a line without its trailing CRs. The loop goes from the end: all bytes from n on were CRs.
+use native.Mathlib.Omega.{arith}
+use Rattle.lines.proofs.TrimLaws.{Trim, trim_first, trim_turn, trim_done, trim_past}
+use Rattle.lines.proofs.content.Goals as goal
+
+pub loop-n-init : goal.loop-n-init
+loop-n-init c = trim_first
+
+pub returns-then-line-n-ne13 : goal.returns-then-line-n-ne13
+returns-then-line-n-ne13 c = trim_done c.loop-n.invariant c.loop-n-test.true c.if-line-n-ne13.true
+
+pub loop-n-preserved : goal.loop-n-preserved
+loop-n-preserved c = trim_turn c.loop-n.invariant c.loop-n-test.true c.if-line-n-ne13.false
+
+pub returns : goal.returns
+returns c = trim_past c.loop-n.invariant c.loop-n-test.false
