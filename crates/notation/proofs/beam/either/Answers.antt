@@ -1,0 +1,6 @@
+-- The test of a flag and a byte is their disjunction.
+use borrow.Author.Rules.{rules}
+use Rattle.notation.proofs.beam.either.Goals as goal
+
+pub returns : goal.returns
+returns c = rw c.if-seen.false

@@ -1,0 +1,13 @@
+-- All bytes before i are b: what is left from i on is trimmed to the same.
+use Prim.Native.Nat.{◌-◌}
+use native.Mathlib.Omega.{arith}
+use lib.ListN.{length}
+use borrow.Author.Rules.{rules}
+use Rattle.notation.proofs.ByteLaws.{Trim, trim_first, trim_turn, trim_done, trim_past}
+use Rattle.notation.proofs.bytes.trim_start.Given as goal
+
+abbrev pub invariant-loop-i : goal.invariant-loop-i
+invariant-loop-i l = Trim l.s l.b l.i
+
+abbrev pub decreases-loop-i : goal.decreases-loop-i
+decreases-loop-i l = length l.s - l.i
