@@ -1,6 +1,5 @@
 -- Both sides are those of the trimmed token.
 use Rattle.notation.specs.Barline.{barlines_of}
-use borrow.Author.Rules.{rules}
 use Rattle.notation.proofs.barline.kern_barline.Goals as goal
 
 pub returns : goal.returns

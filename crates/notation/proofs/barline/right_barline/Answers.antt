@@ -1,7 +1,6 @@
 -- Each answer is that of the first test that passes.
 use mathlib.Core.Path.{sym, ◌∙◌}
 use Rattle.notation.specs.Barline.{right_of}
-use borrow.Author.Rules.{rules}
 use Rattle.notation.proofs.barline.right_barline.Goals as goal
 
 pub returns-then-contains_pair : goal.returns-then-contains_pair

@@ -1,9 +1,7 @@
 -- Each flag says whether its letter stands before i.
 use Prim.Native.Nat.{◌-◌}
-use native.Mathlib.Omega.{arith}
 use lib.ListN.{length}
-use borrow.Author.Rules.{rules}
-use Rattle.notation.proofs.ByteLaws.{Seen, seen_first, seen_turn, seen_past}
+use Rattle.notation.proofs.ByteLaws.{Seen}
 use Rattle.notation.proofs.beam.beam_letters.Given as goal
 
 abbrev pub invariant-loop-i : goal.invariant-loop-i

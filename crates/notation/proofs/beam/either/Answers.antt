@@ -1,5 +1,4 @@
 -- The test of a flag and a byte is their disjunction.
-use borrow.Author.Rules.{rules}
 use Rattle.notation.proofs.beam.either.Goals as goal
 
 pub returns : goal.returns

@@ -1,9 +1,5 @@
 -- The byte is found, or was not seen before i: what is left from i on decides.
-use Prim.Native.Nat.{◌-◌}
-use native.Mathlib.Omega.{arith}
-use lib.ListN.{length}
-use mathlib.Core.Bool.{false}
-use Rattle.notation.proofs.ByteLaws.{Seen, seen_first, seen_miss, seen_here, seen_past}
+use Rattle.notation.proofs.ByteLaws.{seen_first, seen_miss, seen_here, seen_past}
 use Rattle.notation.proofs.bytes.contains.Goals as goal
 
 pub loop-i-init : goal.loop-i-init

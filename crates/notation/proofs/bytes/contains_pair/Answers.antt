@@ -1,8 +1,5 @@
 -- No pair begins before i: what is left from i on decides, and less than two bytes hold no pair.
-use Prim.Native.Nat.{◌-◌}
-use native.Mathlib.Omega.{arith}
-use lib.ListN.{length}
-use Rattle.notation.proofs.ByteLaws.{Pairs, pairs_first, pairs_here, pairs_not_first, pairs_not_second, pairs_past}
+use Rattle.notation.proofs.ByteLaws.{pairs_first, pairs_here, pairs_not_first, pairs_not_second, pairs_past}
 use Rattle.notation.proofs.bytes.contains_pair.Goals as goal
 use Rattle.notation.proofs.bytes.contains_pair.Goals.{then-s-i+else-s-i-2, else-s-i}
 

@@ -1,9 +1,5 @@
 -- All bytes before i are b: what is left from i on is trimmed to the same.
-use Prim.Native.Nat.{◌-◌}
-use native.Mathlib.Omega.{arith}
-use lib.ListN.{length}
-use borrow.Author.Rules.{rules}
-use Rattle.notation.proofs.ByteLaws.{Trim, trim_first, trim_turn, trim_done, trim_past}
+use Rattle.notation.proofs.ByteLaws.{trim_first, trim_turn, trim_done, trim_past}
 use Rattle.notation.proofs.bytes.trim_start.Goals as goal
 
 pub loop-i-init : goal.loop-i-init
