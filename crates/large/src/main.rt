@@ -3,6 +3,7 @@
 // Question 1: a text of 67,108,865 bytes, one more than are allowed, is refused before any of them is looked at. Number, line and figure, and
 // then the lent buffer, which is as it was.
 use reader::Answer;
+use std::alloc::{AllocError, Global};
 
 fn print(bytes: &[u8]) {
     io::write_all(1, bytes);
@@ -34,12 +35,13 @@ fn ask(text: &[u8]) {
     print(b"\n");
 }
 
-// One byte more than a text may have. Nothing of it is read, so that the compiled program holds none of it.
-fn bytes() -> [u8; 67108865] {
-    [0u8; 67108865]
+// One byte more than a text may have.
+fn bytes(alloc: Global) -> Result<Vec<u8>, AllocError> {
+    Ok(vec![in alloc; 0u8; 67108865]?)
 }
 
-fn main() {
-    let text = bytes();
+fn main(rt: HostRuntime) -> Result<(), AllocError> {
+    let text = bytes(rt.alloc())?;
     ask(&text);
+    Ok(())
 }
