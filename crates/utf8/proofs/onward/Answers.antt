@@ -1,0 +1,33 @@
+-- `onward`: each branch passes what it has seen to be well formed, and more than nothing where a character stands at i.
+use mathlib.Core.Path.{sym, ◌∙◌}
+use native.Mathlib.Omega.{arith}
+use Rattle.utf8.proofs.BlockLaws.{run_one, blocks_first, blocks_turn, blocks_on, two_on, three_on, onward_run, onward_char}
+use borrow.Author.Rules.{rules}
+use Rattle.utf8.proofs.onward.Goals as goal
+
+pub overflow_add-result : goal.overflow_add-result
+overflow_add-result c = omega (arith, (onward_char c.args.s.now c.args.i (omega arith) c.char_length.ensures).0.high)
+
+pub returns-then-s-i-lt16 : goal.returns-then-s-i-lt16
+returns-then-s-i-lt16 c = onward_char c.args.s.now c.args.i (omega arith) c.char_length.ensures
+
+pub returns-then-joined-ge128 : goal.returns-then-joined-ge128
+returns-then-joined-ge128 c = onward_run (blocks_turn (blocks_first (omega arith)) 1 (omega arith) (run_one c.args.s.now c.args.i c.if-s-i-lt128.true)) (omega arith)
+
+pub returns-then-joined_16-ge128 : goal.returns-then-joined_16-ge128
+returns-then-joined_16-ge128 c = onward_run (blocks_turn (blocks_first (omega arith)) 4 (omega arith) (c.joined.ensures c.if-joined-ge128.false)) (omega arith)
+
+pub returns-then-s-i-lt128 : goal.returns-then-s-i-lt128
+returns-then-s-i-lt128 c = onward_run (blocks_on (blocks_turn (blocks_first (omega arith)) 16 (omega arith) (c.joined_16.ensures c.if-joined_16-ge128.false)) c.blocks_64.ensures) (omega (arith, c.blocks_64.ensures.low))
+
+pub returns-then-two : goal.returns-then-two
+returns-then-two c = onward_run (blocks_on (two_on _ _ (sym c.two.ensures ∙ c.if-two.true)) c.twos.ensures) (omega (arith, c.twos.ensures.low))
+
+pub returns-then-three : goal.returns-then-three
+returns-then-three c = onward_run (blocks_on (three_on _ _ (sym c.three.ensures ∙ c.if-three.true)) c.threes.ensures) (omega (arith, c.threes.ensures.low))
+
+pub overflow_add-result-2 : goal.overflow_add-result-2
+overflow_add-result-2 c = omega (arith, (onward_char c.args.s.now c.args.i (omega arith) c.char_length-2.ensures).0.high)
+
+pub returns : goal.returns
+returns c = onward_char c.args.s.now c.args.i (omega arith) c.char_length-2.ensures

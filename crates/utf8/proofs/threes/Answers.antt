@@ -1,0 +1,26 @@
+-- `threes`: the well-formed part from `from` goes on as far as i, which is its contract's record.
+use mathlib.Core.Path.{sym, ◌∙◌}
+use Prim.Native.Nat.{◌-◌}
+use native.Mathlib.Omega.{arith}
+use lib.ListN.{length}
+use Rattle.utf8.specs.Utf8.{Passed}
+use Rattle.utf8.proofs.BlockLaws.{blocks_first, blocks_on, three_on}
+use Rattle.utf8.proofs.threes.Goals as goal
+
+pub loop-i-init : goal.loop-i-init
+loop-i-init c = blocks_first c.requires
+
+pub three-requires : goal.three-requires
+three-requires c = c.loop-i.invariant.high
+
+pub overflow_add-i : goal.overflow_add-i
+overflow_add-i c = omega (arith, (three_on c.args.s.now c.loop-i.i (sym c.three.ensures ∙ c.loop-i-test.true)).high)
+
+pub loop-i-smaller : goal.loop-i-smaller
+loop-i-smaller c = omega (arith, (three_on c.args.s.now c.loop-i.i (sym c.three.ensures ∙ c.loop-i-test.true)).high)
+
+pub loop-i-preserved : goal.loop-i-preserved
+loop-i-preserved c = blocks_on c.loop-i.invariant (three_on c.args.s.now c.loop-i.i (sym c.three.ensures ∙ c.loop-i-test.true))
+
+pub returns : goal.returns
+returns c = c.loop-i.invariant
