@@ -1,6 +1,5 @@
 -- `path_token` is `path_token`: two bytes, of which the first is `*` and the second decides.
 use borrow.Author.Tests.{ne_eqb}
-use borrow.Author.Rules.{rules}
 use Rattle.paths.proofs.TokenLaws.{token_long, token_starred, token_other}
 use Rattle.paths.proofs.path_token.Goals as goal
 
