@@ -1,0 +1,6 @@
+-- The code's piece of the lent wording, by the number's row.
+use borrow.Author.Rules.{rules}
+use Rattle.notice.proofs.code.Goals as goal
+
+pub returns : goal.returns
+returns c = rw c.row_of-row.ensures at c.piece.ensures

@@ -1,0 +1,13 @@
+-- The row of a number: the constant is the table's rows, and past them there is none.
+use mathlib.Core.Path.{refl}
+use Rattle.notice.specs.Table.{table, rows_from}
+use Rattle.notice.proofs.TableLaws.{no_row}
+use borrow.Author.Rules.{rules}
+use Rattle.notice.proofs.row_of.Goals as goal
+
+pub returns-then-n-lt22 : goal.returns-then-n-lt22
+unfolding table rows_from
+returns-then-n-lt22 c = refl
+
+pub returns : goal.returns
+returns c = no_row c.args.number c.if-n-lt22.false
