@@ -1,8 +1,7 @@
 -- `gcd`: Euclid's algorithm. The pair keeps its divisor, in as many steps as are left, which b bounds.
 use native.Mathlib.Nat.{mod-lt}
 use native.Mathlib.Omega.{arith}
-use Rattle.duration.specs.Duration.{gcd_of}
-use Rattle.duration.proofs.Divisors.{Euclid, euclid_first, euclid_turn, euclid_past}
+use Rattle.duration.proofs.Divisors.{euclid_first, euclid_turn, euclid_past}
 use Rattle.duration.proofs.gcd.Goals as goal
 
 pub loop-b-init : goal.loop-b-init

@@ -1,8 +1,6 @@
 -- `gcd`: Euclid's algorithm. The pair keeps its divisor, in as many steps as are left, which b bounds.
-use native.Mathlib.Nat.{mod-lt}
-use native.Mathlib.Omega.{arith}
 use Rattle.duration.specs.Duration.{gcd_of}
-use Rattle.duration.proofs.Divisors.{Euclid, euclid_first, euclid_turn, euclid_past}
+use Rattle.duration.proofs.Divisors.{Euclid}
 use Rattle.duration.proofs.gcd.Given as goal
 
 abbrev pub invariant-loop-b : goal.invariant-loop-b

@@ -1,7 +1,6 @@
 -- `kern_duration`: the number and the length decide.
 use mathlib.Core.Path.{refl, sym, ◌∙◌}
 use Rattle.duration.proofs.Durations.{too_long, no_digits, parsed}
-use borrow.Author.Rules.{rules}
 use Rattle.duration.proofs.kern_duration.Goals as goal
 
 pub returns-then-digits-gt4 : goal.returns-then-digits-gt4

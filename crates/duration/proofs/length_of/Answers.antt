@@ -1,8 +1,7 @@
 -- `length_of`: the product of three factors, which fits 32 bits.
 use native.Mathlib.Omega.{arith}
-use Rattle.duration.specs.Length.{◌times◌, note_length}
-use Rattle.duration.proofs.Lengths.{Bounded, two_fit, all_fit}
-use borrow.Author.Rules.{rules}
+use Rattle.duration.specs.Length.{note_length}
+use Rattle.duration.proofs.Lengths.{two_fit, all_fit}
 use Rattle.duration.proofs.length_of.Goals as goal
 
 pub returns-then-grace : goal.returns-then-grace

@@ -2,7 +2,6 @@
 use mathlib.Core.Path.{sym, ◌∙◌}
 use native.Mathlib.Omega.{arith}
 use Rattle.duration.proofs.Durations.{too_long, is_breve, is_longa, is_zero, too_high, is_written, told}
-use borrow.Author.Rules.{rules}
 use Rattle.duration.proofs.value_by.Goals as goal
 
 pub returns-then-long-gt4 : goal.returns-then-long-gt4

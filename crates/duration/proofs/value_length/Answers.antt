@@ -1,6 +1,5 @@
 -- `value_length`: a shift is a power of two.
 use Rattle.duration.proofs.Lengths.{value_last, value_shift}
-use borrow.Author.Rules.{rules}
 use Rattle.duration.proofs.value_length.Goals as goal
 
 pub returns-then-value-gt9 : goal.returns-then-value-gt9

@@ -7,7 +7,6 @@ use borrow.Author.Tests.{eq-eqb, ne_eqb}
 use Rattle.duration.specs.Duration.{gcd_of, written, written_at}
 use Rattle.duration.proofs.Divisors.{gcd_positive}
 use Rattle.duration.proofs.Powers.{base}
-use borrow.Author.Rules.{rules}
 use Rattle.duration.proofs.value_of.Goals.{After-gcd-divisor}
 use Rattle.duration.proofs.value_of.Goals as goal
 

@@ -1,10 +1,7 @@
 -- The bytes up to e are digits of one run.
 use Prim.Native.Nat.{◌-◌}
-use native.Mathlib.Omega.{arith}
 use lib.ListN.{length}
-use borrow.Author.Rules.{rules}
-use Rattle.items.proofs.RunLaws.{run_past}
-use Rattle.items.proofs.NextLaws.{Digital, digits_start, digits_turn, digits_done}
+use Rattle.items.proofs.NextLaws.{Digital}
 use Rattle.items.proofs.digits_end.Given as goal
 
 abbrev pub invariant-loop-e : goal.invariant-loop-e

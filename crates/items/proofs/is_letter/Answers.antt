@@ -1,7 +1,6 @@
 -- Both cases of the letters.
 use mathlib.Core.Path.{sym, ◌∙◌}
 use Rattle.items.specs.Items.{is_letter}
-use borrow.Author.Rules.{rules}
 use Rattle.items.proofs.is_letter.Goals as goal
 
 pub returns-then-within : goal.returns-then-within

@@ -1,6 +1,5 @@
 -- The first byte decides what a run is.
 use Rattle.items.proofs.ItemLaws.{item_none, item_digits, item_letters, item_blank, item_mark}
-use borrow.Author.Rules.{rules}
 use Rattle.items.proofs.item_of.Goals as goal
 
 pub returns-then-run-eq0 : goal.returns-then-run-eq0

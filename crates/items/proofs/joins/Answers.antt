@@ -1,7 +1,6 @@
 -- Each answer is that of the first test that passes.
 use mathlib.Core.Path.{sym, ◌∙◌}
 use Rattle.items.specs.Items.{joins}
-use borrow.Author.Rules.{rules}
 use Rattle.items.proofs.joins.Goals as goal
 
 pub returns-then-within : goal.returns-then-within

@@ -1,9 +1,7 @@
 -- The bytes up to e are the letter of one run.
 use Prim.Native.Nat.{◌-◌}
-use native.Mathlib.Omega.{arith}
 use lib.ListN.{length}
-use Rattle.items.proofs.RunLaws.{run_past}
-use Rattle.items.proofs.NextLaws.{Lettered, letter_start, letter_turn, letter_done}
+use Rattle.items.proofs.NextLaws.{Lettered}
 use Rattle.items.proofs.letter_end.Given as goal
 
 abbrev pub invariant-loop-e : goal.invariant-loop-e

@@ -1,6 +1,5 @@
 -- The run from the index on, and what it is.
 use Rattle.items.proofs.RunLaws.{end_high, next_none, next_is}
-use borrow.Author.Rules.{rules}
 use Rattle.items.proofs.next_item.Goals as goal
 
 pub returns-then-token-from : goal.returns-then-token-from

@@ -1,9 +1,7 @@
 -- The bytes up to e are of one run: what is left behind the byte before e decides.
 use Prim.Native.Nat.{◌-◌}
-use native.Mathlib.Omega.{arith}
 use lib.ListN.{length}
-use borrow.Author.Rules.{rules}
-use Rattle.items.proofs.RunLaws.{Run, run_none, run_start, run_turn, run_done, run_past}
+use Rattle.items.proofs.RunLaws.{Run}
 use Rattle.items.proofs.run_end.Given as goal
 
 abbrev pub invariant-loop-e : goal.invariant-loop-e

@@ -1,7 +1,6 @@
 -- Adding 128 and taking 128 are one sum, taken modulo 256.
 use native.Mathlib.Omega.{arith}
 use Rattle.pitch.specs.Pitch.{twos_complement}
-use borrow.Author.Rules.{rules}
 use Rattle.pitch.proofs.alter_byte.Goals as goal
 
 pub returns-then-alter-lt128 : goal.returns-then-alter-lt128

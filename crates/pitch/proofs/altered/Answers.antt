@@ -2,7 +2,6 @@
 use native.Mathlib.Omega.{arith}
 use borrow.Author.Tests.{eq-eqb, ne_eqb}
 use Rattle.pitch.specs.Pitch.{altered_by}
-use borrow.Author.Rules.{rules}
 use Rattle.pitch.proofs.altered.Goals as goal
 
 pub returns-then-alter-lt255 : goal.returns-then-alter-lt255

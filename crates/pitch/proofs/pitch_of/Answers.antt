@@ -2,7 +2,6 @@
 use mathlib.Core.Path.{sym, ◌∙◌}
 use Rattle.pitch.proofs.Letters.{within_low}
 use Rattle.pitch.proofs.PitchLaws.{none_at_all, lower_in, lower_out, upper_in, upper_out, no_letter}
-use borrow.Author.Rules.{rules}
 use Rattle.pitch.proofs.pitch_of.Goals as goal
 
 pub returns-then-count-eq0 : goal.returns-then-count-eq0
