@@ -1,0 +1,19 @@
+-- The row's outcome is that of the cells passed, with their voices, and of the rest, by what the whole row holds; the masks tell it.
+use Prim.Native.Nat.{ℕ}
+use lib.ListN.{get_or}
+use native.Mathlib.Omega.{arith}
+use borrow.Author.Rules.{rules}
+use mathlib.Core.Path.{sym, ap, ◌∙◌}
+use Prim.Native.Nat.{◌-◌}
+use lib.ListN.{length}
+use Rattle.voices.specs.Mask.{bit, voice_of}
+use Rattle.spines.proofs.CellLaws.{branch_part}
+use Rattle.voices.proofs.MaskLaws.{lowest_low}
+use Rattle.voices.proofs.GiveLaws.{Giving, giving_first, giving_keep, giving_voice, giving_none, giving_past}
+use Rattle.voices.proofs.give.Given as goal
+
+abbrev pub invariant-loop-i : goal.invariant-loop-i
+invariant-loop-i l = Giving l.initial.cells l.cells l.masks (length l.initial.masks) l.i
+
+abbrev pub decreases-loop-i : goal.decreases-loop-i
+decreases-loop-i l = length l.initial.cells - l.i
