@@ -1,7 +1,5 @@
 -- `sheet::put_bar`: the array is the record's bytes, as `bar_bytes` opens. Casts and lengths are arithmetic.
-use borrow.Author.Rules.{rules}
 use Rattle.sheet.specs.Record.{bar_bytes}
-use Rattle.sheet.proofs.BytesLaws.{byte}
 use Rattle.sheet.proofs.put_bar.Goals as goal
 
 pub returns : goal.returns

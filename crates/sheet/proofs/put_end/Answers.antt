@@ -1,7 +1,5 @@
 -- `sheet::put_end`: the array is the record's bytes, as `end_bytes` opens. Casts and lengths are arithmetic.
-use borrow.Author.Rules.{rules}
 use Rattle.sheet.specs.Record.{end_bytes}
-use Rattle.sheet.proofs.BytesLaws.{byte}
 use Rattle.sheet.proofs.put_end.Goals as goal
 
 pub returns : goal.returns

@@ -1,7 +1,5 @@
 -- `sheet::put_head`: the array is the record's bytes, as `head_bytes` opens. Casts and lengths are arithmetic.
-use borrow.Author.Rules.{rules}
 use Rattle.sheet.specs.Record.{head_bytes}
-use Rattle.sheet.proofs.BytesLaws.{byte}
 use Rattle.sheet.proofs.put_head.Goals as goal
 
 pub returns : goal.returns

@@ -1,7 +1,5 @@
 -- `sheet::put_note`: the array is the record's bytes, as `note_bytes` opens. Casts and lengths are arithmetic.
-use borrow.Author.Rules.{rules}
 use Rattle.sheet.specs.Record.{note_bytes}
-use Rattle.sheet.proofs.BytesLaws.{byte}
 use Rattle.sheet.proofs.put_note.Goals as goal
 
 pub returns : goal.returns

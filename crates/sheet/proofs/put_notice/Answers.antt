@@ -1,7 +1,5 @@
 -- `sheet::put_notice`: the array is the record's bytes, as `notice_bytes` opens. Casts and lengths are arithmetic.
-use borrow.Author.Rules.{rules}
 use Rattle.sheet.specs.Record.{notice_bytes}
-use Rattle.sheet.proofs.BytesLaws.{byte}
 use Rattle.sheet.proofs.put_notice.Goals as goal
 
 pub returns : goal.returns

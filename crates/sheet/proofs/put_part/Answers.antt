@@ -1,7 +1,5 @@
 -- `sheet::put_part`: the array is the record's bytes, as `part_bytes` opens. Casts and lengths are arithmetic.
-use borrow.Author.Rules.{rules}
 use Rattle.sheet.specs.Record.{part_bytes}
-use Rattle.sheet.proofs.BytesLaws.{byte}
 use Rattle.sheet.proofs.put_part.Goals as goal
 
 pub returns : goal.returns

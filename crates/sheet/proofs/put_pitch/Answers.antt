@@ -1,5 +1,4 @@
 -- `sheet::put_pitch`: the array is the record's bytes, as `pitch_bytes` opens. Casts and lengths are arithmetic.
-use borrow.Author.Rules.{rules}
 use Rattle.sheet.specs.Record.{pitch_bytes}
 use Rattle.sheet.proofs.put_pitch.Goals as goal
 
