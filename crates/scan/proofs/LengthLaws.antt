@@ -17,7 +17,7 @@ at_mark false bad behind rest = refl
 pub bad_fold : (l : Lengths) (is : List Item) → (fold step_lengths l is).bad ≡ (l.bad || bad_length l.had l.behind is)
 unfolding bad_length
 bad_fold l [] = sym (or-false l.bad)
-bad_fold l (Digits v ∷ is) = bad_fold _ is ∙ or_assoc l.bad l.had (bad_length true true is)
-bad_fold l (Letters c n ∷ is) = bad_fold _ is
-bad_fold l (Blank ∷ is) = bad_fold _ is
-bad_fold l (Mark b ∷ is) = bad_fold _ is ∙ at_mark (eqb b 37) l.bad l.behind (bad_length l.had false is)
+bad_fold l (Digits v ∷ is) = bad_fold (step_lengths l (Digits v)) is ∙ or_assoc l.bad l.had (bad_length true true is)
+bad_fold l (Letters c n ∷ is) = bad_fold (step_lengths l (Letters c n)) is
+bad_fold l (Blank ∷ is) = bad_fold (step_lengths l Blank) is
+bad_fold l (Mark b ∷ is) = bad_fold (step_lengths l (Mark b)) is ∙ at_mark (eqb b 37) l.bad l.behind (bad_length l.had false is)
