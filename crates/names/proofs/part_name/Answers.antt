@@ -1,7 +1,6 @@
 -- The name of a part: the text's piece where one is given, else the fallback's, whose place is told by the three ranges of the part.
 use mathlib.Core.Path.{◌∙◌}
 use Rattle.names.proofs.NameLaws.{first_nine, to_ninety_nine, from_hundred}
-use borrow.Author.Rules.{rules}
 use Rattle.names.proofs.part_name.Goals as goal
 
 pub returns-then-given : goal.returns-then-given
