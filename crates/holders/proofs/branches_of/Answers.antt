@@ -1,0 +1,30 @@
+-- The branches so far, and those of the tokens left, are those of the whole record.
+use borrow.Author.Rules.{rules}
+use native.Mathlib.Omega.{arith}
+use borrow.Author.Tests.{not-true, not-false}
+use Prim.Native.Nat.{◌-◌}
+use lib.ListN.{length}
+use Rattle.holders.specs.Walk.{listed}
+use Rattle.holders.proofs.PassLaws.{Branching, branching_first, branching_on, branching_turn, branching_done, branching_past}
+use Rattle.holders.proofs.branches_of.Goals as goal
+
+pub loop-i-init : goal.loop-i-init
+loop-i-init c = branching_first _ _ _ _ c.requires
+
+pub loop-i-preserved-then-not-is_branch : goal.loop-i-preserved-then-not-is_branch
+loop-i-preserved-then-not-is_branch c = branching_on c.loop-i.invariant c.loop-i-test.true c.token_at-token.ensures c.is_branch.ensures (c.if-not-is_branch.true)
+
+pub free_voice-voice-requires : goal.free_voice-voice-requires
+free_voice-voice-requires c = c.loop-i.invariant.kept
+
+pub put-held-requires : goal.put-held-requires
+put-held-requires c = c.loop-i.invariant.kept
+
+pub returns-then-voice-eq4 : goal.returns-then-voice-eq4
+returns-then-voice-eq4 c = branching_done c.loop-i.invariant c.loop-i-test.true c.token_at-token.ensures c.is_branch.ensures _ (c.if-not-is_branch.false) c.free_voice-voice.ensures c.put-held.ensures c.if-voice-eq4.true
+
+pub loop-i-preserved : goal.loop-i-preserved
+loop-i-preserved c = branching_turn c.loop-i.invariant c.loop-i-test.true c.token_at-token.ensures c.is_branch.ensures _ (c.if-not-is_branch.false) c.free_voice-voice.ensures c.put-held.ensures c.if-voice-eq4.false
+
+pub returns : goal.returns
+returns c = branching_past c.loop-i.invariant c.loop-i-test.false

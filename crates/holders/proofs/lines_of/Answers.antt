@@ -1,0 +1,19 @@
+-- The lines so far, and those of the tokens left, are those of the whole record.
+use borrow.Author.Rules.{rules}
+use native.Mathlib.Omega.{arith}
+use Prim.Native.Nat.{◌-◌}
+use lib.ListN.{length}
+use Rattle.holders.proofs.PassLaws.{Lining, lining_first, lining_turn, lining_past}
+use Rattle.holders.proofs.lines_of.Goals as goal
+
+pub loop-i-init : goal.loop-i-init
+loop-i-init c = lining_first _ _ _ _ c.nobody-held.ensures
+
+pub line_step-held-requires : goal.line_step-held-requires
+line_step-held-requires c = c.loop-i.invariant.kept
+
+pub loop-i-preserved : goal.loop-i-preserved
+loop-i-preserved c = lining_turn c.loop-i.invariant c.loop-i-test.true c.token_at-token.ensures c.line_step-held.ensures c.is_join-follows.ensures
+
+pub returns : goal.returns
+returns c = lining_past c.loop-i.invariant c.loop-i-test.false
