@@ -1,5 +1,4 @@
 -- The code's piece of the lent wording, by the number's row.
-use borrow.Author.Rules.{rules}
 use Rattle.notice.proofs.code.Goals as goal
 
 pub returns : goal.returns

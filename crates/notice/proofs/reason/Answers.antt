@@ -1,5 +1,4 @@
 -- The reason's piece of the lent wording, by the number's row: behind the code.
-use borrow.Author.Rules.{rules}
 use Rattle.notice.proofs.reason.Goals as goal
 
 pub returns : goal.returns

@@ -2,7 +2,6 @@
 use mathlib.Core.Path.{refl}
 use Rattle.notice.specs.Table.{table, rows_from}
 use Rattle.notice.proofs.TableLaws.{no_row}
-use borrow.Author.Rules.{rules}
 use Rattle.notice.proofs.row_of.Goals as goal
 
 pub returns-then-n-lt22 : goal.returns-then-n-lt22
