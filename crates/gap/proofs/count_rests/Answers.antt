@@ -1,7 +1,6 @@
 -- What the rest of the hole comes to, behind the rests so far, is what the hole comes to.
 use native.Mathlib.Omega.{arith}
-use borrow.Author.Rules.{rules}
-use Rattle.gap.proofs.FillLaws.{Counting, counting_first, counting_done, counting_none, taken_low, counting_full, counting_turn}
+use Rattle.gap.proofs.FillLaws.{counting_first, counting_done, counting_none, taken_low, counting_full, counting_turn}
 use Rattle.gap.proofs.count_rests.Goals as goal
 
 pub loop-left-init : goal.loop-left-init

@@ -1,7 +1,5 @@
 -- What the rest of the hole comes to, behind the rests so far, is what the hole comes to.
-use native.Mathlib.Omega.{arith}
-use borrow.Author.Rules.{rules}
-use Rattle.gap.proofs.FillLaws.{Counting, counting_first, counting_done, counting_none, taken_low, counting_full, counting_turn}
+use Rattle.gap.proofs.FillLaws.{Counting}
 use Rattle.gap.proofs.count_rests.Given as goal
 
 abbrev pub invariant-loop-left : goal.invariant-loop-left

@@ -1,7 +1,6 @@
 -- By what the hole comes to.
 use native.Mathlib.Omega.{arith}
 use Rattle.gap.proofs.AnswerLaws.{turned_away, few_bytes, too_short, can_fill, is_filled}
-use borrow.Author.Rules.{rules}
 use Rattle.gap.proofs.gap_rests.Goals as goal
 
 pub overflow_mul-long : goal.overflow_mul-long

@@ -1,7 +1,6 @@
 -- Whether one of the values from v on is exact says it of all.
-use native.Mathlib.Omega.{arith}
 use Prim.Native.Nat.{◌-◌}
-use Rattle.gap.proofs.SearchLaws.{Exactly, exactly_first, exactly_past, exactly_turn, exactly_found}
+use Rattle.gap.proofs.SearchLaws.{Exactly}
 use Rattle.gap.proofs.is_exact.Given as goal
 
 abbrev pub invariant-loop-v : goal.invariant-loop-v

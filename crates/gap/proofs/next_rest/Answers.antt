@@ -1,7 +1,6 @@
 -- The search, or a longa.
 use mathlib.Core.Path.{◌∙◌}
 use Rattle.gap.proofs.LongaLaws.{next_longa}
-use borrow.Author.Rules.{rules}
 use Rattle.gap.proofs.next_rest.Goals as goal
 
 pub returns : goal.returns

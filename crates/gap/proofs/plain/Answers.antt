@@ -1,8 +1,6 @@
 -- What the values from v on give is what all give.
 use native.Mathlib.Omega.{arith}
-use Prim.Native.Nat.{◌-◌}
-use Rattle.gap.specs.Values.{plain_by}
-use Rattle.gap.proofs.SearchLaws.{Search, search_first, search_past, search_in, search_turn, search_found}
+use Rattle.gap.proofs.SearchLaws.{search_first, search_past, search_in, search_turn, search_found}
 use Rattle.gap.proofs.plain.Goals as goal
 
 pub loop-v-init : goal.loop-v-init

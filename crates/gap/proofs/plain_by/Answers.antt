@@ -1,7 +1,6 @@
 -- By two tests.
 use borrow.Author.Tests.{eq-eqb, ne_eqb, le-leb, lt-leb}
 use Rattle.gap.specs.Values.{plain_by}
-use borrow.Author.Rules.{rules}
 use Rattle.gap.proofs.plain_by.Goals as goal
 
 pub returns-then-base-eq0 : goal.returns-then-base-eq0

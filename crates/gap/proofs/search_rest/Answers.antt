@@ -1,6 +1,5 @@
 -- The first of the three that serves.
 use mathlib.Core.Path.{sym, ◌∙◌}
-use borrow.Author.Rules.{rules}
 use Rattle.gap.proofs.search_rest.Goals as goal
 
 pub returns-then-is_rest : goal.returns-then-is_rest

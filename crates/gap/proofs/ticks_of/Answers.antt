@@ -2,7 +2,6 @@
 use mathlib.Core.Path.{refl}
 use lib.Pow.{pow_pos}
 use Rattle.gap.proofs.ValueLaws.{unit_is, ticks_broken, ticks_above, ticks_whole}
-use borrow.Author.Rules.{rules}
 use Rattle.gap.proofs.ticks_of.Goals as goal
 
 pub nonzero_rem-all : goal.nonzero_rem-all

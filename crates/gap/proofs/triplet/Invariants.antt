@@ -1,8 +1,7 @@
 -- What the values from v on give is what all give.
-use native.Mathlib.Omega.{arith}
 use Prim.Native.Nat.{◌-◌}
 use Rattle.gap.specs.Values.{triplet_by}
-use Rattle.gap.proofs.SearchLaws.{Search, search_first, search_past, search_in, search_turn, search_found}
+use Rattle.gap.proofs.SearchLaws.{Search}
 use Rattle.gap.proofs.triplet.Given as goal
 
 abbrev pub invariant-loop-v : goal.invariant-loop-v

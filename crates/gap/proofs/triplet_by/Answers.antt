@@ -1,7 +1,6 @@
 -- Two thirds of the value are the ticks, or not.
 use borrow.Author.Tests.{eq-eqb, ne_eqb}
 use Rattle.gap.specs.Values.{triplet_by}
-use borrow.Author.Rules.{rules}
 use Rattle.gap.proofs.triplet_by.Goals as goal
 
 pub returns-then-base-ticks : goal.returns-then-base-ticks

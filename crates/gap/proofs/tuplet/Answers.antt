@@ -1,8 +1,7 @@
 -- What the values below n give is what all give.
 use mathlib.Core.Path.{sym, ◌∙◌}
 use native.Mathlib.Omega.{arith}
-use Rattle.gap.specs.Values.{tuplet_by}
-use Rattle.gap.proofs.SearchLaws.{Descent, descent_first, descent_past, descent_in, descent_turn, descent_found}
+use Rattle.gap.proofs.SearchLaws.{descent_first, descent_past, descent_in, descent_turn, descent_found}
 use Rattle.gap.proofs.tuplet.Goals as goal
 
 pub is_exact-requires : goal.is_exact-requires

@@ -1,8 +1,6 @@
 -- What the values below n give is what all give.
-use mathlib.Core.Path.{sym, ◌∙◌}
-use native.Mathlib.Omega.{arith}
 use Rattle.gap.specs.Values.{tuplet_by}
-use Rattle.gap.proofs.SearchLaws.{Descent, descent_first, descent_past, descent_in, descent_turn, descent_found}
+use Rattle.gap.proofs.SearchLaws.{Descent}
 use Rattle.gap.proofs.tuplet.Given as goal
 
 abbrev pub invariant-loop-n : goal.invariant-loop-n

@@ -3,7 +3,6 @@ use native.Mathlib.Omega.{arith}
 use borrow.Author.Tests.{le-leb, lt-leb}
 use Rattle.duration.proofs.Divisors.{gcd_positive}
 use Rattle.gap.specs.Values.{tuplet_by}
-use borrow.Author.Rules.{rules}
 use Rattle.gap.proofs.tuplet_by.Goals as goal
 
 pub returns-then-base-ticks : goal.returns-then-base-ticks

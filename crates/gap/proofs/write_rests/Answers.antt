@@ -1,15 +1,13 @@
 -- The rests that are left fill the rest of the hole; with them the buffer is as at the end.
-use mathlib.Core.Path.{◌≡◌, refl, ap, ◌∙◌}
+use mathlib.Core.Path.{refl, ap, ◌∙◌}
 use native.Mathlib.Omega.{arith}
-use borrow.Author.Rules.{rules}
 use lib.ListN.{length}
 use lib.Seq.{length-sets}
 use Rattle.sheet.proofs.NoteLaws.{note_length_lem}
 use Rattle.slices.proofs.StoreLaws.{stored_tail}
 use Rattle.sheet.specs.Record.{note_bytes}
-use Rattle.gap.specs.Fill.{rest_note, fill_from}
-use Rattle.gap.specs.Answer.{laid}
-use Rattle.gap.proofs.FillLaws.{Writing, writing_first, writing_done, writing_none, writing_free, writing_room, writing_taken, writing_turn}
+use Rattle.gap.specs.Fill.{rest_note}
+use Rattle.gap.proofs.FillLaws.{writing_first, writing_done, writing_none, writing_free, writing_room, writing_taken, writing_turn}
 use Rattle.gap.proofs.write_rests.Goals as goal
 
 pub loop-left-init : goal.loop-left-init
