@@ -1,6 +1,5 @@
 -- The length of a line without its trailing CRs. The loop goes from the end: all bytes from n on were CRs.
-use native.Mathlib.Omega.{arith}
-use Rattle.lines.proofs.TrimLaws.{Trim, trim_first, trim_turn, trim_done, trim_past}
+use Rattle.lines.proofs.TrimLaws.{Trim}
 use Rattle.lines.proofs.content.Given as goal
 
 abbrev pub invariant-loop-n : goal.invariant-loop-n

@@ -1,6 +1,5 @@
 -- Whether a token begins `**`: what `begins` says of that word.
 use Rattle.lines.specs.Tokens.{is_exclusive}
-use borrow.Author.Rules.{rules}
 use Rattle.lines.proofs.is_exclusive.Goals as goal
 
 pub returns : goal.returns

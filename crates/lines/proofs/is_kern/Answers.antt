@@ -1,6 +1,5 @@
 -- Whether a token is `**kern`: what `same` says of that word.
 use Rattle.lines.specs.Tokens.{is_kern}
-use borrow.Author.Rules.{rules}
 use Rattle.lines.proofs.is_kern.Goals as goal
 
 pub returns : goal.returns

@@ -1,6 +1,5 @@
 -- Whether a token is `.`: by its length and its only byte.
 use Rattle.lines.proofs.TokenLaws.{null_not, null_is}
-use borrow.Author.Rules.{rules}
 use Rattle.lines.proofs.is_null.Goals as goal
 
 pub returns-then-token-ne1 : goal.returns-then-token-ne1

@@ -1,6 +1,5 @@
 -- The byte is compared where there is one.
 use borrow.Author.Tests.{eqb-true}
-use borrow.Author.Rules.{rules}
 use Rattle.slices.proofs.TestLaws.{clash}
 use Rattle.lines.proofs.is_remark.Goals as goal
 

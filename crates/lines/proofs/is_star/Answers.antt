@@ -1,6 +1,5 @@
 -- Whether a token begins `*`: by its first byte.
 use Rattle.lines.proofs.TokenLaws.{star_not, star_is}
-use borrow.Author.Rules.{rules}
 use Rattle.lines.proofs.is_star.Goals as goal
 
 pub returns-then-token-eq0 : goal.returns-then-token-eq0

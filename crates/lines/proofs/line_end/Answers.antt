@@ -1,6 +1,5 @@
 -- The end of the line from `from` on: a search of the rest of the text, or `from` itself past the end.
 use Rattle.lines.proofs.PieceLaws.{end_past}
-use borrow.Author.Rules.{rules}
 use Rattle.slices.proofs.PieceLaws.{rest}
 use Rattle.lines.proofs.line_end.Goals as goal
 

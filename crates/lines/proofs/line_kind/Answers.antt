@@ -1,6 +1,5 @@
 -- What a line is: by its first byte, and behind a `!` by the next two.
 use Rattle.lines.proofs.KindLaws.{kind_empty, kind_star, kind_bar, kind_data, kind_short, kind_second, kind_third, kind_bangs}
-use borrow.Author.Rules.{rules}
 use Rattle.lines.proofs.line_kind.Goals as goal
 
 pub returns-then-line-eq0 : goal.returns-then-line-eq0

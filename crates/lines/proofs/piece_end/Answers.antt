@@ -1,6 +1,5 @@
 -- The end of the piece from `from` on: a search of the rest of the slice, or `from` itself past the end.
 use Rattle.lines.proofs.PieceLaws.{end_past}
-use borrow.Author.Rules.{rules}
 use Rattle.slices.proofs.PieceLaws.{rest}
 use Rattle.lines.proofs.piece_end.Goals as goal
 

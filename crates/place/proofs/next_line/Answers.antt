@@ -1,6 +1,5 @@
 -- Where the next line begins: the line's end is inside the text, so one more fits.
 use native.Mathlib.Omega.{arith}
-use borrow.Author.Rules.{rules}
 use Rattle.lines.proofs.PieceLaws.{piece_at_lem}
 use Rattle.place.proofs.next_line.Goals as goal
 

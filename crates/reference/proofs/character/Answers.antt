@@ -1,7 +1,6 @@
 -- `character`: the text from i on begins with it.
 use native.Mathlib.Omega.{arith}
 use Rattle.reference.proofs.LoopLaws.{width_fits, character_at}
-use borrow.Author.Rules.{rules}
 use Rattle.reference.proofs.character.Goals as goal
 
 pub overflow_add-next : goal.overflow_add-next

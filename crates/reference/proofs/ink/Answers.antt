@@ -1,6 +1,5 @@
 -- `ink`: what its two tests say.
 use mathlib.Core.Bool.{false≢true}
-use borrow.Author.Rules.{rules}
 use Rattle.reference.proofs.ink.Goals as goal
 
 pub returns-then-b-le32 : goal.returns-then-b-le32

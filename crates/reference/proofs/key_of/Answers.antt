@@ -1,6 +1,5 @@
 -- `key_of`: the words in the definition's order.
 use Rattle.reference.specs.Reference.{key_of}
-use borrow.Author.Rules.{rules}
 use Rattle.reference.proofs.key_of.Goals as goal
 
 pub returns-then-spells : goal.returns-then-spells

@@ -1,9 +1,7 @@
 -- `last_end`: the text ends where what stays from i on ends, or at `end` where nothing stays there.
 use Prim.Native.Nat.{◌-◌}
-use native.Mathlib.Omega.{arith}
 use lib.ListN.{length}
-use borrow.Author.Tests.{not-true, not-false}
-use Rattle.reference.proofs.LoopLaws.{End, end_start, ink_turn, end_turn, end_turn_white, end_past}
+use Rattle.reference.proofs.LoopLaws.{End}
 use Rattle.reference.proofs.last_end.Given as goal
 
 abbrev pub invariant-loop-i : goal.invariant-loop-i

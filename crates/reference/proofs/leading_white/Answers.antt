@@ -1,9 +1,7 @@
 -- `leading_white`: the white characters at the front are i bytes and those from i on.
-use Prim.Native.Nat.{◌-◌}
 use native.Mathlib.Omega.{arith}
-use lib.ListN.{length}
 use borrow.Author.Tests.{not-true, not-false}
-use Rattle.reference.proofs.LoopLaws.{Leading, leading_start, leading_turn, leading_done, leading_past, ink_stop, space_turn}
+use Rattle.reference.proofs.LoopLaws.{leading_start, leading_turn, leading_done, leading_past, ink_stop, space_turn}
 use Rattle.reference.proofs.leading_white.Goals as goal
 
 pub loop-i-init : goal.loop-i-init

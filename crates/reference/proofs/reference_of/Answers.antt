@@ -1,7 +1,6 @@
 -- `reference_of`: the key is the piece before the first colon, the value the piece behind it.
 use native.Mathlib.Omega.{arith}
 use Rattle.reference.proofs.ReferenceLaws.{key_fits, reference_none, reference_some}
-use borrow.Author.Rules.{rules}
 use Rattle.reference.proofs.reference_of.Goals as goal
 
 pub overflow_add-key_at : goal.overflow_add-key_at

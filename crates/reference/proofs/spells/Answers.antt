@@ -1,6 +1,5 @@
 -- `spells`: a length and three bytes.
 use Rattle.reference.proofs.KeyLaws.{word_long, word_first, word_second, word_third}
-use borrow.Author.Rules.{rules}
 use Rattle.reference.proofs.spells.Goals as goal
 
 pub returns-then-k-ne3 : goal.returns-then-k-ne3

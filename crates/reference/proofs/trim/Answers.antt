@@ -1,6 +1,5 @@
 -- `trim`: the span of what stays of the piece.
 use Rattle.reference.proofs.SpanLaws.{span_none, span_some}
-use borrow.Author.Rules.{rules}
 use Rattle.reference.proofs.trim.Goals as goal
 
 pub returns-then-n-eq0 : goal.returns-then-n-eq0

@@ -1,8 +1,5 @@
 -- `trimmed_end`: what stands from n on is white.
-use mathlib.Core.Path.{sym}
-use native.Mathlib.Omega.{arith}
-use lib.Seq.{length-take-le}
-use Rattle.reference.proofs.EndLaws.{Ending, ending_first, ending_turn, ending_done, ending_rest, ending_past}
+use Rattle.reference.proofs.EndLaws.{Ending}
 use Rattle.reference.proofs.trimmed_end.Given as goal
 
 abbrev pub invariant-loop-n : goal.invariant-loop-n

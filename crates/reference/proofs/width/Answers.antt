@@ -1,7 +1,6 @@
 -- `width`: the character's length, or 1.
 use borrow.Author.Tests.{ne_eqb}
 use Rattle.reference.specs.Trim.{width}
-use borrow.Author.Rules.{rules}
 use Rattle.reference.proofs.width.Goals as goal
 
 pub returns-then-n-eq0 : goal.returns-then-n-eq0

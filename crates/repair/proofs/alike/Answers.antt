@@ -1,15 +1,8 @@
 -- Whether all tokens are one: those passed were.
-use borrow.Author.Tests.{not-true, not-false}
-use Rattle.lines.specs.Tokens.{tokens_of}
-use Rattle.slices.specs.Compare.{same_bytes}
-use Rattle.repair.specs.Repair.{each}
 use native.Mathlib.Omega.{arith}
-use borrow.Author.Rules.{rules}
 use mathlib.Core.Path.{sym, ◌∙◌}
-use Prim.Native.Nat.{◌+◌, ◌-◌}
-use lib.ListN.{length}
 use Rattle.lines.proofs.PieceLaws.{piece_at_lem}
-use Rattle.repair.proofs.EachLaws.{Each, each_first, each_turn, each_not, each_past}
+use Rattle.repair.proofs.EachLaws.{each_first, each_turn, each_not, each_past}
 use Rattle.repair.proofs.alike.Goals as goal
 
 pub loop-from-init : goal.loop-from-init

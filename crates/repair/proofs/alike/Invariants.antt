@@ -1,15 +1,10 @@
 -- Whether all tokens are one: those passed were.
-use borrow.Author.Tests.{not-true, not-false}
 use Rattle.lines.specs.Tokens.{tokens_of}
 use Rattle.slices.specs.Compare.{same_bytes}
 use Rattle.repair.specs.Repair.{each}
-use native.Mathlib.Omega.{arith}
-use borrow.Author.Rules.{rules}
-use mathlib.Core.Path.{sym, ◌∙◌}
 use Prim.Native.Nat.{◌+◌, ◌-◌}
 use lib.ListN.{length}
-use Rattle.lines.proofs.PieceLaws.{piece_at_lem}
-use Rattle.repair.proofs.EachLaws.{Each, each_first, each_turn, each_not, each_past}
+use Rattle.repair.proofs.EachLaws.{Each}
 use Rattle.repair.proofs.alike.Given as goal
 
 abbrev pub invariant-loop-from : goal.invariant-loop-from

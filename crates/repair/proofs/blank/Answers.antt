@@ -1,15 +1,8 @@
 -- Whether the tokens from an index on are empty: those passed were.
-use borrow.Author.Tests.{not-true, not-false}
-use Rattle.slices.specs.Split.{pieces}
-use Rattle.lines.specs.Tokens.{is_empty}
-use Rattle.repair.specs.Repair.{each}
 use native.Mathlib.Omega.{arith}
-use borrow.Author.Rules.{rules}
 use mathlib.Core.Path.{refl, sym, ◌∙◌}
-use Prim.Native.Nat.{◌+◌, ◌-◌}
-use lib.ListN.{length}
 use Rattle.lines.proofs.PieceLaws.{piece_at_lem}
-use Rattle.repair.proofs.EachLaws.{Each, each_turn, each_not, each_past}
+use Rattle.repair.proofs.EachLaws.{each_turn, each_not, each_past}
 use Rattle.repair.proofs.blank.Goals as goal
 
 pub loop-from-init : goal.loop-from-init

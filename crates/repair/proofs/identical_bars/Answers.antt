@@ -5,7 +5,6 @@ use lib.Seq.{length-take-le}
 use Rattle.lines.proofs.PieceLaws.{Piece, piece_at_lem}
 use Rattle.repair.specs.Repair.{identical_bars}
 use Rattle.repair.proofs.EachLaws.{bar_first, bar_none, bar_not, bar_is, first_token}
-use borrow.Author.Rules.{rules}
 use Rattle.repair.proofs.identical_bars.Goals as goal
 
 pub returns-then-line-eq0 : goal.returns-then-line-eq0

@@ -1,8 +1,6 @@
 -- A token that begins `*` and is none of the five path tokens.
 use mathlib.Core.Path.{sym, ◌∙◌}
-use borrow.Author.Tests.{not-true, not-false}
 use Rattle.repair.specs.Repair.{is_ordinary}
-use borrow.Author.Rules.{rules}
 use Rattle.repair.proofs.is_ordinary.Goals as goal
 
 pub returns-then-not-is_star : goal.returns-then-not-is_star

@@ -1,9 +1,7 @@
 -- A line begins `*` where its first token does.
 use mathlib.Core.Path.{sym, ap, ◌∙◌}
 use mathlib.Core.Bool.{not}
-use borrow.Author.Tests.{not-true, not-false}
 use Rattle.repair.proofs.EachLaws.{star_first}
-use borrow.Author.Rules.{rules}
 use Rattle.repair.proofs.mixed.Goals as goal
 
 pub returns-then-not-is_star : goal.returns-then-not-is_star

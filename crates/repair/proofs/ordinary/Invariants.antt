@@ -1,14 +1,9 @@
 -- Whether all tokens are ordinary: those passed were.
-use borrow.Author.Tests.{not-true, not-false}
 use Rattle.lines.specs.Tokens.{tokens_of}
 use Rattle.repair.specs.Repair.{each, is_ordinary}
-use native.Mathlib.Omega.{arith}
-use borrow.Author.Rules.{rules}
-use mathlib.Core.Path.{sym, ◌∙◌}
 use Prim.Native.Nat.{◌+◌, ◌-◌}
 use lib.ListN.{length}
-use Rattle.lines.proofs.PieceLaws.{piece_at_lem}
-use Rattle.repair.proofs.EachLaws.{Each, each_first, each_turn, each_not, each_past}
+use Rattle.repair.proofs.EachLaws.{Each}
 use Rattle.repair.proofs.ordinary.Given as goal
 
 abbrev pub invariant-loop-from : goal.invariant-loop-from

@@ -1,12 +1,10 @@
 -- Each answer is a case of `repaired_of`: surplus tokens, too few, or as many as spines.
-use borrow.Author.Tests.{not-true, not-false}
 use native.Mathlib.Omega.{arith}
 use Rattle.repair.specs.declared.Repaired.TheVariants.{Uneven}
 use mathlib.Core.Path.{sym, ap, ◌∙◌}
 use Rattle.lines.specs.Tokens.{is_empty}
 use Rattle.repair.specs.Repair.{each}
 use Rattle.repair.proofs.RepairLaws.{surplus, cut_mixed, cut_even, filled_stars, few_one, few_other, filled_bars_lem, whole_mixed, whole_even}
-use borrow.Author.Rules.{rules}
 use Rattle.repair.proofs.repair_record.Goals as goal
 
 pub returns-then-not-blank : goal.returns-then-not-blank

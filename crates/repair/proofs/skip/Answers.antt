@@ -1,10 +1,7 @@
 -- The tokens behind the first k: each turn passes one, and what is left to drop falls by one.
 use native.Mathlib.Omega.{arith}
-use borrow.Author.Rules.{rules}
-use Prim.Native.Nat.{◌+◌, ◌-◌}
-use lib.ListN.{length}
 use Rattle.lines.proofs.PieceLaws.{piece_at_lem}
-use Rattle.repair.proofs.EachLaws.{Skip, skip_first, skip_done, skip_turn, skip_past}
+use Rattle.repair.proofs.EachLaws.{skip_first, skip_done, skip_turn, skip_past}
 use Rattle.repair.proofs.skip.Goals as goal
 
 pub loop-from-init : goal.loop-from-init

@@ -2,7 +2,6 @@
 use mathlib.Core.Path.{sym}
 use Rattle.utf8.proofs.RowLaws.{past, under, upto}
 use mathlib.Core.List.{[]}
-use borrow.Author.Rules.{rules}
 use Rattle.utf8.proofs.between.Goals as goal
 
 pub returns-then-s-i : goal.returns-then-s-i

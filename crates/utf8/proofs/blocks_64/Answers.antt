@@ -1,8 +1,4 @@
 -- `blocks_64`: the well-formed part from `from` goes on as far as i, which is its contract's record.
-use Prim.Native.Nat.{◌-◌}
-use native.Mathlib.Omega.{arith}
-use lib.ListN.{length}
-use Rattle.utf8.specs.Utf8.{Passed}
 use Rattle.utf8.proofs.BlockLaws.{blocks_first, blocks_turn}
 use Rattle.utf8.proofs.blocks_64.Goals as goal
 

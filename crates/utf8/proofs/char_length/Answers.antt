@@ -4,7 +4,6 @@ use native.Mathlib.Omega.{arith}
 use Rattle.utf8.specs.Utf8.{table, begins}
 use Rattle.utf8.proofs.LengthLaws.{char_empty}
 use Rattle.utf8.proofs.RowLaws.{row, leads, leads_none, leads_three}
-use borrow.Author.Rules.{rules}
 use Rattle.utf8.proofs.char_length.Goals as goal
 
 pub returns-then-s-eq0 : goal.returns-then-s-eq0

@@ -4,7 +4,6 @@ use native.Mathlib.Omega.{arith}
 use Rattle.utf8.proofs.LengthLaws.{char_inside}
 use Rattle.utf8.proofs.TableLaws.{char_most}
 use Rattle.utf8.proofs.PointLaws.{point_none, point_1, point_2, point_3, point_4}
-use borrow.Author.Rules.{rules}
 use Rattle.utf8.proofs.code_point.Goals as goal
 
 pub returns-then-n-eq0 : goal.returns-then-n-eq0

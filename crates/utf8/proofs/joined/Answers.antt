@@ -1,6 +1,5 @@
 -- `joined`: where the joined bits are below 128, each byte is.
 use Rattle.utf8.proofs.BlockLaws.{run_four}
-use borrow.Author.Rules.{rules}
 use Rattle.utf8.proofs.joined.Goals as goal
 
 pub returns : goal.returns

@@ -1,6 +1,5 @@
 -- `joined_16`: four times four bytes.
 use Rattle.utf8.proofs.BlockLaws.{run_parts}
-use borrow.Author.Rules.{rules}
 use Rattle.utf8.proofs.joined_16.Goals as goal
 
 pub returns : goal.returns

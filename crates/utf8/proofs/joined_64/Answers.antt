@@ -1,6 +1,5 @@
 -- `joined_64`: four times sixteen bytes.
 use Rattle.utf8.proofs.BlockLaws.{run_parts}
-use borrow.Author.Rules.{rules}
 use Rattle.utf8.proofs.joined_64.Goals as goal
 
 pub returns : goal.returns

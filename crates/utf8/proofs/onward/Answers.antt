@@ -2,7 +2,6 @@
 use mathlib.Core.Path.{sym, ◌∙◌}
 use native.Mathlib.Omega.{arith}
 use Rattle.utf8.proofs.BlockLaws.{run_one, blocks_first, blocks_turn, blocks_on, two_on, three_on, onward_run, onward_char}
-use borrow.Author.Rules.{rules}
 use Rattle.utf8.proofs.onward.Goals as goal
 
 pub overflow_add-result : goal.overflow_add-result

@@ -1,8 +1,6 @@
 -- `three`: the row of the lead and its tails, byte by byte.
 use mathlib.Core.Path.{sym, ◌∙◌}
-use borrow.Author.Tests.{not-true, not-false}
 use Rattle.utf8.proofs.RowLaws.{begins_three}
-use borrow.Author.Rules.{rules}
 use Rattle.utf8.proofs.three.Goals as goal
 
 pub returns-then-not-between : goal.returns-then-not-between

@@ -1,9 +1,7 @@
 -- `two`: the row of the lead and its tail, byte by byte.
 use mathlib.Core.Path.{sym, ◌∙◌}
-use borrow.Author.Tests.{not-true, not-false}
 use Rattle.utf8.specs.Utf8.{tails}
 use Rattle.utf8.proofs.RowLaws.{begins_split}
-use borrow.Author.Rules.{rules}
 use Rattle.utf8.proofs.two.Goals as goal
 
 pub returns-then-not-between : goal.returns-then-not-between

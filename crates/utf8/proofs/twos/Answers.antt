@@ -1,9 +1,6 @@
 -- `twos`: the well-formed part from `from` goes on as far as i, which is its contract's record.
 use mathlib.Core.Path.{sym, ◌∙◌}
-use Prim.Native.Nat.{◌-◌}
 use native.Mathlib.Omega.{arith}
-use lib.ListN.{length}
-use Rattle.utf8.specs.Utf8.{Passed}
 use Rattle.utf8.proofs.BlockLaws.{blocks_first, blocks_on, two_on}
 use Rattle.utf8.proofs.twos.Goals as goal
 

@@ -1,9 +1,7 @@
 -- `utf8_length`: the well-formed part goes on as far as i.
 use Prim.Native.Nat.{◌-◌}
-use native.Mathlib.Omega.{arith}
 use lib.ListN.{length}
 use Rattle.utf8.specs.Utf8.{Passed}
-use Rattle.utf8.proofs.BlockLaws.{blocks_first, blocks_on, length_done, length_past}
 use Rattle.utf8.proofs.utf8_length.Given as goal
 
 abbrev pub invariant-loop-i : goal.invariant-loop-i
