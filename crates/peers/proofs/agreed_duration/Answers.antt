@@ -3,7 +3,6 @@ use mathlib.Core.Path.{sym, ap, ◌∙◌}
 use Rattle.duration.specs.Duration.{duration_of}
 use Rattle.peers.specs.Peers.{digits_at}
 use Rattle.peers.proofs.MeetLaws.{no_value}
-use borrow.Author.Rules.{rules}
 use Rattle.peers.proofs.agreed_duration.Goals as goal
 
 pub returns-in-Nothing : goal.returns-in-Nothing

@@ -1,10 +1,8 @@
 -- The summary so far, carried on over the columns left, gives what all give from the start.
 use Prim.Native.Nat.{◌-◌}
-use native.Mathlib.Omega.{arith}
 use lib.ListN.{length}
 use Rattle.peers.specs.Peers.{Sound}
-use Rattle.peers.proofs.MeetLaws.{Passing, pass_first, pass_turn, line_past, row_past, broken_stop}
-use Rattle.lines.proofs.PieceLaws.{end_low}
+use Rattle.peers.proofs.MeetLaws.{Passing}
 use Rattle.peers.proofs.agreed_reciprocal.Given as goal
 
 abbrev pub invariant-loop-i : goal.invariant-loop-i

@@ -1,7 +1,6 @@
 -- The digits, byte by byte, and what is behind them.
 use Rattle.peers.proofs.MeetLaws.{cut}
 use Rattle.peers.proofs.AgreeLaws.{agree_short, agree_digit, agree_other, agree_forbids, agree_all}
-use borrow.Author.Rules.{rules}
 use Rattle.peers.proofs.agrees.Goals as goal
 
 pub returns-then-token-n : goal.returns-then-token-n

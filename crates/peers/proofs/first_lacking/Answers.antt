@@ -1,6 +1,5 @@
 -- A column that breaks the agreement offers nothing, or other digits.
 use Rattle.peers.proofs.MeetLaws.{cut, lacks_none, lacks_other, lacks_not}
-use borrow.Author.Rules.{rules}
 use Rattle.peers.proofs.first_lacking.Goals as goal
 
 pub returns-then-offer-eq0 : goal.returns-then-offer-eq0

@@ -1,9 +1,7 @@
 -- No forbidden byte stands before i: what is left from i on decides.
 use mathlib.Core.Path.{refl}
-use Prim.Native.Nat.{◌-◌}
 use native.Mathlib.Omega.{arith}
-use lib.ListN.{length}
-use Rattle.peers.proofs.AgreeLaws.{Forbids, forbids_turn, forbids_here, forbids_past}
+use Rattle.peers.proofs.AgreeLaws.{forbids_turn, forbids_here, forbids_past}
 use Rattle.peers.proofs.forbids.Goals as goal
 
 pub loop-i-init : goal.loop-i-init

@@ -1,6 +1,5 @@
 -- A letter, and nothing but signs behind its run.
 use Rattle.peers.proofs.OfferLaws.{bare_none, bare_letter, bare_other}
-use borrow.Author.Rules.{rules}
 use Rattle.peers.proofs.is_bare.Goals as goal
 
 pub returns-then-token-eq0 : goal.returns-then-token-eq0

@@ -3,7 +3,6 @@ use mathlib.Core.Path.{subst}
 use Rattle.peers.specs.Peers.{Sound}
 use Rattle.peers.specs.declared.Found.{Found}
 use Rattle.peers.proofs.MeetLaws.{cut, first_none, first_some, first_inside, first_offered, one_same, one_other, more_same, more_other}
-use borrow.Author.Rules.{rules}
 use Rattle.peers.proofs.meet.Goals as goal
 
 pub returns-then-n-eq0 : goal.returns-then-n-eq0

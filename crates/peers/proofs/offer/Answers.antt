@@ -1,5 +1,4 @@
 -- Only a token that begins with a digit offers any.
-use borrow.Author.Rules.{rules}
 use Rattle.peers.proofs.OfferLaws.{offer_empty, offer_other}
 use Rattle.peers.proofs.offer.Goals as goal
 

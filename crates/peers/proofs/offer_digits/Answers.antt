@@ -1,7 +1,6 @@
 -- The digits are the first item, and more follows.
 use mathlib.Core.Path.{ap}
 use Rattle.peers.proofs.OfferLaws.{digits_lead, is_digits, no_lead, offer_forbids, offer_whole, offer_value, offer_none}
-use borrow.Author.Rules.{rules}
 use Rattle.peers.proofs.offer_digits.Goals as goal
 
 pub returns-then-forbids : goal.returns-then-forbids

@@ -1,9 +1,7 @@
 -- All bytes before i are signs: what is left from i on decides.
-use mathlib.Core.Path.{refl}
 use Prim.Native.Nat.{◌-◌}
-use native.Mathlib.Omega.{arith}
 use lib.ListN.{length}
-use Rattle.peers.proofs.OfferLaws.{Signs, sign_turn, sign_not, sign_past}
+use Rattle.peers.proofs.OfferLaws.{Signs}
 use Rattle.peers.proofs.only_signs.Given as goal
 
 abbrev pub invariant-loop-i : goal.invariant-loop-i

@@ -3,7 +3,6 @@ use mathlib.Core.Path.{ap}
 use mathlib.Core.Bool.{true}
 use borrow.Author.Tests.{le-leb, lt-leb}
 use Rattle.peers.specs.Peers.{Tally}
-use borrow.Author.Rules.{rules}
 use Rattle.peers.proofs.pass.Goals as goal
 
 pub returns-then-cell-lt8 : goal.returns-then-cell-lt8

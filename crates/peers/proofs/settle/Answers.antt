@@ -1,5 +1,4 @@
 -- Only more than one neighbour settles it.
-use borrow.Author.Rules.{rules}
 use Rattle.peers.proofs.settle.Goals as goal
 
 pub returns-in-More : goal.returns-in-More

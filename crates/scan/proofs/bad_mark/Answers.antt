@@ -1,6 +1,5 @@
 -- A `%` right behind digits.
 use borrow.Author.Tests.{eq-eqb, ne_eqb}
-use borrow.Author.Rules.{rules}
 use Rattle.scan.proofs.bad_mark.Goals as goal
 
 pub returns-then-b-eq37 : goal.returns-then-b-eq37

@@ -1,7 +1,6 @@
 -- One more where the byte is an articulation.
 use native.Mathlib.Omega.{arith}
 use borrow.Author.Tests.{lt-ltb, le-ltb}
-use borrow.Author.Rules.{rules}
 use Rattle.scan.proofs.count_articulation.Goals as goal
 
 pub returns-then-articulation-lt5 : goal.returns-then-articulation-lt5

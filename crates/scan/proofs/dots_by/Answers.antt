@@ -1,7 +1,6 @@
 -- One dot more, up to three.
 use borrow.Author.Tests.{eq-eqb, ne_eqb, lt-ltb, le-ltb}
 use Rattle.scan.specs.Steps.{dots_by}
-use borrow.Author.Rules.{rules}
 use Rattle.scan.proofs.dots_by.Goals as goal
 
 pub returns-then-dots-lt3 : goal.returns-then-dots-lt3

@@ -1,5 +1,4 @@
 -- A run is the pitch where none stands before it and it is no outside one.
-use borrow.Author.Rules.{rules}
 use Rattle.scan.proofs.fits.Goals as goal
 
 pub returns-in-At : goal.returns-in-At

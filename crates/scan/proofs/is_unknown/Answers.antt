@@ -1,7 +1,6 @@
 -- A bit stands for each byte.
 use native.Mathlib.Omega.{arith}
 use Rattle.scan.proofs.PassLaws.{low_unknown, high_unknown, all_unknown}
-use borrow.Author.Rules.{rules}
 use Rattle.scan.proofs.is_unknown.Goals as goal
 
 pub returns-then-b-lt64 : goal.returns-then-b-lt64

@@ -1,7 +1,6 @@
 -- A bit stands for each mark.
 use native.Mathlib.Omega.{arith}
 use Rattle.scan.proofs.PassLaws.{low_marks, high_marks, no_marks}
-use borrow.Author.Rules.{rules}
 use Rattle.scan.proofs.known.Goals as goal
 
 pub returns-then-b-lt64 : goal.returns-then-b-lt64

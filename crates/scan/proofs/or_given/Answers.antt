@@ -1,5 +1,4 @@
 -- The first digits stay.
-use borrow.Author.Rules.{rules}
 use Rattle.scan.proofs.or_given.Goals as goal
 
 pub returns-in-Nothing : goal.returns-in-Nothing

@@ -1,7 +1,6 @@
 -- A sign where a pitch stands, or a mark with a meaning.
 use mathlib.Core.Path.{sym, ◌∙◌}
 use Rattle.token.specs.Token.{passes}
-use borrow.Author.Rules.{rules}
 use Rattle.scan.proofs.passes.Goals as goal
 
 pub returns-then-is_sign : goal.returns-then-is_sign

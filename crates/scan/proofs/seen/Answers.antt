@@ -2,7 +2,6 @@
 use mathlib.Core.Path.{sym}
 use mathlib.Core.Bool.{or-false}
 use Rattle.notation.specs.Bytes.{contains}
-use borrow.Author.Rules.{rules}
 use Rattle.scan.proofs.seen.Goals as goal
 
 pub returns : goal.returns

@@ -3,7 +3,6 @@ use mathlib.Core.Path.{sym}
 use mathlib.Core.Bool.{or-false}
 use borrow.Author.Tests.{eq-eqb, ne_eqb}
 use Rattle.notation.specs.Bytes.{contains}
-use borrow.Author.Rules.{rules}
 use Rattle.scan.proofs.seen_either.Goals as goal
 
 pub returns-then-x-b : goal.returns-then-x-b

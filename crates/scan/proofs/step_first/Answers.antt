@@ -1,6 +1,5 @@
 -- One item more, by its kind, as long as the first sub-token lasts.
 use mathlib.Core.Path.{◌∙◌}
-use borrow.Author.Rules.{rules}
 use Rattle.scan.proofs.step_first.Goals as goal
 
 pub returns-in-Digits : goal.returns-in-Digits

@@ -1,5 +1,4 @@
 -- One item more, by its kind.
-use borrow.Author.Rules.{rules}
 use Rattle.scan.proofs.step_lengths.Goals as goal
 
 pub returns-in-Digits : goal.returns-in-Digits

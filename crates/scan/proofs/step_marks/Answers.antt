@@ -1,5 +1,4 @@
 -- One item more: only a mark counts.
-use borrow.Author.Rules.{rules}
 use Rattle.scan.proofs.step_marks.Goals as goal
 
 pub returns-in-Mark : goal.returns-in-Mark

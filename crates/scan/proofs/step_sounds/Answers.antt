@@ -1,6 +1,5 @@
 -- One item more, by its kind and by whether the sub-token has a pitch.
 use mathlib.Core.Path.{sym, ◌∙◌}
-use borrow.Author.Rules.{rules}
 use Rattle.scan.proofs.step_sounds.Goals as goal
 
 pub returns-then-fits : goal.returns-then-fits

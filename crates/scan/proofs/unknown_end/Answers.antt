@@ -1,9 +1,5 @@
 -- The bytes up to e are unknown marks.
-use Prim.Native.Nat.{◌-◌}
 use native.Mathlib.Omega.{arith}
-use lib.ListN.{length}
-use borrow.Author.Rules.{rules}
-use Rattle.scan.specs.Steps.{Unknowns}
 use Rattle.scan.proofs.UnknownLaws.{unknowns_start, unknowns_turn}
 use Rattle.scan.proofs.unknown_end.Goals as goal
 

@@ -1,10 +1,7 @@
 -- The bytes up to e are unknown marks.
 use Prim.Native.Nat.{◌-◌}
-use native.Mathlib.Omega.{arith}
 use lib.ListN.{length}
-use borrow.Author.Rules.{rules}
 use Rattle.scan.specs.Steps.{Unknowns}
-use Rattle.scan.proofs.UnknownLaws.{unknowns_start, unknowns_turn}
 use Rattle.scan.proofs.unknown_end.Given as goal
 
 abbrev pub invariant-loop-e : goal.invariant-loop-e

@@ -1,5 +1,4 @@
 -- By the value.
-use borrow.Author.Rules.{rules}
 use Rattle.scan.proofs.outcome.by_value.Goals as goal
 
 pub returns-in-Missing : goal.returns-in-Missing

@@ -2,7 +2,6 @@
 use Rattle.scan.proofs.OutcomeLaws.{heard_rest, heard_pitch}
 use borrow.Author.Tests.{eq-eqb, ne_eqb}
 use Rattle.token.specs.Outcome.{outcome_of}
-use borrow.Author.Rules.{rules}
 use Rattle.scan.proofs.outcome.kern_token.Goals as goal
 
 pub returns-then-s : goal.returns-then-s

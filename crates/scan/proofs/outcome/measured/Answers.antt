@@ -1,6 +1,5 @@
 -- By whether there are digits.
 use Rattle.scan.proofs.OutcomeLaws.{not_given, is_given}
-use borrow.Author.Rules.{rules}
 use Rattle.scan.proofs.outcome.measured.Goals as goal
 
 pub returns-in-Nothing : goal.returns-in-Nothing

@@ -1,7 +1,6 @@
 -- A grace is an eighth, else the length is inferred.
 use borrow.Author.Tests.{eq-eqb, ne_eqb}
 use Rattle.token.specs.Outcome.{without_digits}
-use borrow.Author.Rules.{rules}
 use Rattle.scan.proofs.outcome.without_digits.Goals as goal
 
 pub returns-then-s-eq0 : goal.returns-then-s-eq0
