@@ -14,6 +14,7 @@ use Rattle.reference.specs.declared.Key.TheVariants.{Title, Composer, Lyricist, 
 use Rattle.paths.specs.Text.{header_row}
 use Rattle.repair.specs.Repair.{each}
 use Rattle.sheet.specs.declared.Span.{Span}
+use Rattle.sheet.specs.Record.{records_bytes}
 use Rattle.reading.specs.State.{State, refused, goes, with_row, with_parts}
 use Rattle.reading.specs.Notices.{Token, placed, span_of_token, after, notify}
 use Rattle.reading.specs.Header.{by_key, key_span, value_span, read_reference, notice_others, fresh_parts, any_kern, read_header}
@@ -38,7 +39,7 @@ others_hold k j [] st h = quiet_holds st h
 others_hold {b} {n} k j (t ∷ ts) st h =
     let r = notify 2 k j (span_of_token t) st in
     either (After b n) (is_kern t.bytes) (notice_others k (suc j) ts st) (after r (notice_others k (suc j) ts)) (others_hold k (suc j) ts st h)
-    (after_holds n r (notice_others k (suc j) ts) (others_hold k (suc j) ts r.state (notify_holds 2 k j (span_of_token t) st h)))
+    (after_holds n r (notice_others k (suc j) ts) (others_hold {b = b} {n = n + length (records_bytes r.records)} k (suc j) ts r.state (notify_holds 2 k j (span_of_token t) st h)))
 
 fresh_few : (p : ℕ) (ks : List Bool) → length (fresh_parts p ks) ≤ length ks
 unfolding fresh_parts

@@ -3,6 +3,8 @@ use mathlib.Core.Path.{◌≡◌, refl}
 use Prim.Native.Nat.{ℕ, suc, ◌+◌}
 use mathlib.Core.List.{List, [], ◌∷◌, map}
 use mathlib.Core.Bool.{Bool, true, false}
+use lib.ListN.{length}
+use Rattle.sheet.specs.Record.{records_bytes}
 use Rattle.interpretation.specs.Interpretation.{interpretation_of}
 use Rattle.interpretation.specs.declared.Interpretation.{Interpretation}
 use Rattle.interpretation.specs.declared.Interpretation.TheVariants.{Nothing, Clef, Key, Meter, Symbol, Tempo, Name, ShortName, Mode, Notice}
@@ -53,7 +55,7 @@ columns_hold ps k i (s ∷ row) [] st h = quiet_holds st h
 columns_hold {b} {n} ps k i (s ∷ row) (t ∷ ts) st h =
     let r = column_by (path_token t.bytes) (paired ps i) s k (i + 1) t st in
     after_holds n r (read_columns ps k (suc i) row ts)
-    (columns_hold ps k (suc i) row ts r.state (column_holds (path_token t.bytes) (paired ps i) s k (i + 1) t st h))
+    (columns_hold {b = b} {n = n + length (records_bytes r.records)} ps k (suc i) row ts r.state (column_holds (path_token t.bytes) (paired ps i) s k (i + 1) t st h))
 
 row_holds : {b : ℕ} (n k : ℕ) (r : Result) (o : Outcome) → After b n r → Passes b n (to_row k r o)
 row_holds n k r (next row) h = h

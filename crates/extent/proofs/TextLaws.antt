@@ -105,7 +105,7 @@ lines_bounded {b} begun k at before st (l ∷ ls) p h =
     (λ (r : Result). read_lines (begun || is_record (kind_of (without_crs l))) (k + 1) (at + length l + 1) (before ++ r.records) r.state ls) refl (omega arith)
     (line_holds begun (k + 1) at (without_crs l) st h)
     (λ (r : Result) (g : Holds (b + 5 * length (without_crs l)) (length (records_bytes (before ++ r.records))) r.state).
-    lines_bounded (begun || is_record (kind_of (without_crs l))) (k + 1) (at + length l + 1) (before ++ r.records) r.state ls (omega arith) g)
+    lines_bounded {b = b + 5 * length (without_crs l)} (begun || is_record (kind_of (without_crs l))) (k + 1) (at + length l + 1) (before ++ r.records) r.state ls (omega arith) g)
 
 pub start_holds : Holds 0 (length (records_bytes [])) start
 unfolding any_noted
