@@ -1,11 +1,5 @@
 -- The branches so far, and those of the tokens left, are those of the whole record.
-use borrow.Author.Rules.{rules}
-use native.Mathlib.Omega.{arith}
-use borrow.Author.Tests.{not-true, not-false}
-use Prim.Native.Nat.{◌-◌}
-use lib.ListN.{length}
-use Rattle.holders.specs.Walk.{listed}
-use Rattle.holders.proofs.PassLaws.{Branching, branching_first, branching_on, branching_turn, branching_done, branching_past}
+use Rattle.holders.proofs.PassLaws.{branching_first, branching_on, branching_turn, branching_done, branching_past}
 use Rattle.holders.proofs.branches_of.Goals as goal
 
 pub loop-i-init : goal.loop-i-init

@@ -1,9 +1,7 @@
 -- The voices in their order.
 use mathlib.Core.Path.{sym, ◌∙◌}
-use borrow.Author.Tests.{not-true, not-false}
 use Rattle.paths.specs.Voices.{lowest}
 use Rattle.holders.specs.Voice.{free_voice}
-use borrow.Author.Rules.{rules}
 use Rattle.holders.proofs.free_voice.Goals as goal
 
 pub returns-then-not-has : goal.returns-then-not-has

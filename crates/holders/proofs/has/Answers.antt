@@ -1,7 +1,6 @@
 -- None of those passed has it.
 use native.Mathlib.Omega.{arith}
-use Prim.Native.Nat.{◌-◌}
-use Rattle.holders.proofs.PassLaws.{Having, having_first, having_found, having_turn, having_past}
+use Rattle.holders.proofs.PassLaws.{having_first, having_found, having_turn, having_past}
 use Rattle.holders.proofs.has.Goals as goal
 
 pub loop-i-init : goal.loop-i-init

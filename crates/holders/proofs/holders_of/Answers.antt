@@ -6,7 +6,6 @@ use Rattle.spines.specs.Cells.{row_of}
 use Rattle.spines.specs.Tokens.{record_tokens}
 use Rattle.holders.specs.declared.Holder.{Holder}
 use Rattle.holders.specs.Walk.{branches_from, walked}
-use borrow.Author.Rules.{rules}
 use Rattle.holders.proofs.holders_of.Goals as goal
 
 pub returns : goal.returns

@@ -1,6 +1,5 @@
 -- Both tests, one after the other.
 use mathlib.Core.Path.{sym, ◌∙◌}
-use borrow.Author.Rules.{rules}
 use Rattle.holders.proofs.is_branch.Goals as goal
 
 pub returns-then-is_of : goal.returns-then-is_of

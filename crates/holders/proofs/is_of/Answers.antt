@@ -1,6 +1,5 @@
 -- The cell is outside kern, a branch, or a line.
 use Rattle.holders.proofs.PassLaws.{of_none, of_branch, of_line}
-use borrow.Author.Rules.{rules}
 use Rattle.holders.proofs.is_of.Goals as goal
 
 pub returns-then-cell-lt8 : goal.returns-then-cell-lt8

@@ -1,11 +1,7 @@
 -- The columns passed, and those of the tokens left, are those of the header.
-use borrow.Author.Rules.{rules}
-use native.Mathlib.Omega.{arith}
 use Prim.Native.Nat.{◌+◌, ◌-◌}
 use lib.ListN.{length}
-use borrow.Author.Tests.{not-true, not-false}
-use Rattle.lines.proofs.PieceLaws.{end_low}
-use Rattle.holders.proofs.PassLaws.{Counting, counting_first, counting_done, counting_turn, counting_other, counting_past}
+use Rattle.holders.proofs.PassLaws.{Counting}
 use Rattle.holders.proofs.kern_column.Given as goal
 
 abbrev pub invariant-loop-from : goal.invariant-loop-from

@@ -1,7 +1,6 @@
 -- A line that is carried on is put behind the others.
 use mathlib.Core.Path.{sym, ◌∙◌}
 use Rattle.holders.proofs.PassLaws.{of_voice}
-use borrow.Author.Rules.{rules}
 use Rattle.holders.proofs.line_step.Goals as goal
 
 pub returns-then-carries : goal.returns-then-carries

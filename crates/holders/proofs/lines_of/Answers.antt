@@ -1,9 +1,5 @@
 -- The lines so far, and those of the tokens left, are those of the whole record.
-use borrow.Author.Rules.{rules}
-use native.Mathlib.Omega.{arith}
-use Prim.Native.Nat.{◌-◌}
-use lib.ListN.{length}
-use Rattle.holders.proofs.PassLaws.{Lining, lining_first, lining_turn, lining_past}
+use Rattle.holders.proofs.PassLaws.{lining_first, lining_turn, lining_past}
 use Rattle.holders.proofs.lines_of.Goals as goal
 
 pub loop-i-init : goal.loop-i-init

@@ -1,7 +1,6 @@
 -- A store behind those there are, or none.
 use Rattle.holders.proofs.PassLaws.{put_full, put_more}
 use mathlib.Core.Path.{refl}
-use borrow.Author.Rules.{rules}
 use Rattle.holders.proofs.put.Goals as goal
 
 pub returns-then-n-ge5 : goal.returns-then-n-ge5

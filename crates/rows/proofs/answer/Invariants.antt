@@ -1,5 +1,4 @@
 -- `answer` meets its contract. Assumes nothing.
-use borrow.Author.Rules.{rules}
 use Prim.Native.Nat.{◌+◌, ◌-◌, ◌≤◌}
 use lib.ListN.{length}
 use Rattle.rows.proofs.answer.Given as goal

@@ -1,5 +1,4 @@
 -- `print_row` meets its contract. Assumes nothing.
-use borrow.Author.Rules.{rules}
 use Prim.Native.Nat.{◌-◌, ◌≤◌}
 use Rattle.rows.proofs.print_row.Given as goal
 

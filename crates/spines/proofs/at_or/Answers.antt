@@ -3,7 +3,6 @@ use mathlib.Core.Path.{sym}
 use native.Mathlib.Omega.{arith}
 use lib.ListN.{get_or-eq_default}
 use Rattle.spines.proofs.CellLaws.{get_d_any}
-use borrow.Author.Rules.{rules}
 use Rattle.spines.proofs.at_or.Goals as goal
 
 pub returns-then-i-s : goal.returns-then-i-s

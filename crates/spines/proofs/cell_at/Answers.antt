@@ -1,5 +1,4 @@
 -- By whether the spine is kern.
-use borrow.Author.Rules.{rules}
 use Rattle.spines.proofs.TableLaws.{cell_kern, cell_none}
 use Rattle.spines.proofs.cell_at.Goals as goal
 

@@ -1,6 +1,5 @@
 -- By what stands to the left.
 use Rattle.spines.proofs.WalkLaws.{em_right}
-use borrow.Author.Rules.{rules}
 use Rattle.spines.proofs.emit.Goals as goal
 
 pub returns-in-Nothing : goal.returns-in-Nothing

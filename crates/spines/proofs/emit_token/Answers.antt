@@ -1,6 +1,5 @@
 -- A case of the machine for each token.
 use Rattle.spines.proofs.WalkLaws.{em_split, em_more, em_join, em_pair, em_lone, em_end, em_add, em_other}
-use borrow.Author.Rules.{rules}
 use Rattle.spines.proofs.emit_token.Goals as goal
 
 pub returns-then-joining : goal.returns-then-joining

@@ -2,7 +2,6 @@
 use native.Mathlib.Omega.{arith}
 use mathlib.Core.Path.{sym}
 use lib.Seq.{length-take-le}
-use borrow.Author.Rules.{rules}
 use Rattle.spines.specs.Runs.{runs_of}
 use Rattle.spines.proofs.RunLaws.{clipped_runs}
 use Rattle.spines.proofs.mixed_run_of.Goals as goal

@@ -3,7 +3,6 @@ use native.Mathlib.Omega.{arith}
 use mathlib.Core.Path.{sym}
 use lib.Seq.{length-take-le}
 use Rattle.spines.proofs.WalkLaws.{clipped}
-use borrow.Author.Rules.{rules}
 use Rattle.spines.proofs.next_row_of.Goals as goal
 
 pub slice_bounds-walk_row-end : goal.slice_bounds-walk_row-end

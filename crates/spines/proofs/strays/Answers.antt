@@ -1,5 +1,4 @@
 -- Two cells have one origin where their numbers over 8 are the same.
-use borrow.Author.Rules.{rules}
 use Rattle.spines.proofs.RunLaws.{stray_test}
 use Rattle.spines.proofs.strays.Goals as goal
 

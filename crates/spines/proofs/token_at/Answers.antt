@@ -2,7 +2,6 @@
 use native.Mathlib.Omega.{arith}
 use Rattle.lines.proofs.PieceLaws.{piece_at_lem}
 use Rattle.spines.proofs.WalkLaws.{ahead_none, ahead_past, ahead_here}
-use borrow.Author.Rules.{rules}
 use Rattle.spines.proofs.token_at.Goals as goal
 
 pub returns-then-n-eq0 : goal.returns-then-n-eq0

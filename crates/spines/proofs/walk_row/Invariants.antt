@@ -1,9 +1,7 @@
 -- What is written, and what the machine has still to give from the token at hand, make the next row.
-use native.Mathlib.Omega.{arith}
-use borrow.Author.Rules.{rules}
 use Prim.Native.Nat.{◌-◌}
-use lib.ListN.{length, length-set}
-use Rattle.spines.proofs.WalkLaws.{Loop, loop_first, loop_turn, loop_past}
+use lib.ListN.{length}
+use Rattle.spines.proofs.WalkLaws.{Loop}
 use Rattle.spines.proofs.walk_row.Given as goal
 
 abbrev pub invariant-loop-i : goal.invariant-loop-i

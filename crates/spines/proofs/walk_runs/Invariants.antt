@@ -1,10 +1,7 @@
 -- What is found from the token at hand on is what is found of the whole record.
-use mathlib.Core.Path.{sym, ◌∙◌}
-use native.Mathlib.Omega.{arith}
-use borrow.Author.Rules.{rules}
 use Prim.Native.Nat.{◌-◌}
 use lib.ListN.{length}
-use Rattle.spines.proofs.RunLaws.{RunsLeft, runs_first, begin_low, runs_turn, runs_found, runs_past}
+use Rattle.spines.proofs.RunLaws.{RunsLeft}
 use Rattle.spines.proofs.walk_runs.Given as goal
 
 abbrev pub invariant-loop-i : goal.invariant-loop-i

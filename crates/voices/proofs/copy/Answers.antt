@@ -1,8 +1,6 @@
 -- The cells passed stand at the row's start.
 use native.Mathlib.Omega.{arith}
-use Prim.Native.Nat.{◌-◌}
-use lib.ListN.{length}
-use Rattle.voices.proofs.StepLaws.{Copying, copying_first, copying_turn, copying_past}
+use Rattle.voices.proofs.StepLaws.{copying_first, copying_turn, copying_past}
 use Rattle.voices.proofs.copy.Goals as goal
 
 pub loop-i-init : goal.loop-i-init

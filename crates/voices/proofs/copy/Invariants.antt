@@ -1,8 +1,7 @@
 -- The cells passed stand at the row's start.
-use native.Mathlib.Omega.{arith}
 use Prim.Native.Nat.{◌-◌}
 use lib.ListN.{length}
-use Rattle.voices.proofs.StepLaws.{Copying, copying_first, copying_turn, copying_past}
+use Rattle.voices.proofs.StepLaws.{Copying}
 use Rattle.voices.proofs.copy.Given as goal
 
 abbrev pub invariant-loop-i : goal.invariant-loop-i

@@ -1,15 +1,7 @@
 -- The row's outcome is that of the cells passed, with their voices, and of the rest, by what the whole row holds; the masks tell it.
-use Prim.Native.Nat.{ℕ}
-use lib.ListN.{get_or}
-use native.Mathlib.Omega.{arith}
-use borrow.Author.Rules.{rules}
-use mathlib.Core.Path.{sym, ap, ◌∙◌}
 use Prim.Native.Nat.{◌-◌}
 use lib.ListN.{length}
-use Rattle.voices.specs.Mask.{bit, voice_of}
-use Rattle.spines.proofs.CellLaws.{branch_part}
-use Rattle.voices.proofs.MaskLaws.{lowest_low}
-use Rattle.voices.proofs.GiveLaws.{Giving, giving_first, giving_keep, giving_voice, giving_none, giving_past}
+use Rattle.voices.proofs.GiveLaws.{Giving}
 use Rattle.voices.proofs.give.Given as goal
 
 abbrev pub invariant-loop-i : goal.invariant-loop-i

@@ -9,7 +9,6 @@ use Rattle.paths.specs.Voices.{voice_row}
 use Rattle.spines.specs.Cells.{row_of}
 use Rattle.voices.specs.Outcome.{given_of}
 use Rattle.voices.proofs.StepLaws.{lent}
-use borrow.Author.Rules.{rules}
 use Rattle.voices.proofs.give_of.Goals as goal
 
 pub slice_bounds-clear-end-2 : goal.slice_bounds-clear-end-2

@@ -1,9 +1,6 @@
 -- The masks tell the voices of the lines passed.
 use native.Mathlib.Omega.{arith}
-use borrow.Author.Rules.{rules}
-use Prim.Native.Nat.{◌-◌}
-use lib.ListN.{length}
-use Rattle.voices.proofs.MaskLaws.{Marking, marking_first, marking_line, marking_pass, marking_past}
+use Rattle.voices.proofs.MaskLaws.{marking_first, marking_line, marking_pass, marking_past}
 use Rattle.voices.proofs.mark.Goals as goal
 
 pub loop-i-init : goal.loop-i-init

@@ -1,9 +1,7 @@
 -- The masks tell the voices of the lines passed.
-use native.Mathlib.Omega.{arith}
-use borrow.Author.Rules.{rules}
 use Prim.Native.Nat.{◌-◌}
 use lib.ListN.{length}
-use Rattle.voices.proofs.MaskLaws.{Marking, marking_first, marking_line, marking_pass, marking_past}
+use Rattle.voices.proofs.MaskLaws.{Marking}
 use Rattle.voices.proofs.mark.Given as goal
 
 abbrev pub invariant-loop-i : goal.invariant-loop-i

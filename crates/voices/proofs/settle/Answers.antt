@@ -3,7 +3,6 @@ use native.Mathlib.Omega.{arith}
 use mathlib.Core.Path.{sym}
 use lib.Seq.{length-take-le}
 use Rattle.voices.proofs.StepLaws.{settled, unsettled}
-use borrow.Author.Rules.{rules}
 use Rattle.voices.proofs.settle.Goals as goal
 
 pub slice_bounds-settle_row-end-in-All : goal.slice_bounds-settle_row-end-in-All

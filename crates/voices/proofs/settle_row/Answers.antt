@@ -2,7 +2,6 @@
 use native.Mathlib.Omega.{arith}
 use Rattle.voices.proofs.StepLaws.{too_wide, taken_over}
 use mathlib.Core.List.{[]}
-use borrow.Author.Rules.{rules}
 use Rattle.voices.proofs.settle_row.Goals as goal
 
 pub returns-then-n-gt256 : goal.returns-then-n-gt256

@@ -1,6 +1,5 @@
 -- The runs of `*v` first; then the next row, and its voices.
 use native.Mathlib.Omega.{arith}
-use borrow.Author.Rules.{rules}
 use Rattle.voices.proofs.StepLaws.{stepped, stopped}
 use Rattle.voices.proofs.step_row.Goals as goal
 

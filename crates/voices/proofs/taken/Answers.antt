@@ -2,7 +2,6 @@
 use Prim.Native.Nat.{◌/◌, ◌^◌}
 use lib.Bits.{and_mask}
 use Rattle.voices.specs.Mask.{bit}
-use borrow.Author.Rules.{rules}
 use Rattle.voices.proofs.taken.Goals as goal
 
 pub returns : goal.returns

@@ -1,6 +1,5 @@
 -- A bit set by a shift.
 use Rattle.voices.proofs.MaskLaws.{bit_or_lem}
-use borrow.Author.Rules.{rules}
 use Rattle.voices.proofs.with_voice.Goals as goal
 
 pub returns : goal.returns
