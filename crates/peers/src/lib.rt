@@ -247,7 +247,8 @@ fn pass(line: &[u8], summary: Summary, from: usize, len: usize, cell: u16) -> Su
     requires { Sound line.now summary.found × (from + len ≤ length line.now) }
     ensures { (summary_at line.now result ≡ cond (leb 8 cell) (column_met summary.lacking (tally_at line.now summary.found) (piece_at line.now from len)) (summary_at line.now summary)) × Sound line.now result.found }
 {
-    if cell < 8 {
+    let outside = cell < 8;
+    if outside {
         return summary;
     }
     let found = summary.found;
