@@ -1,0 +1,12 @@
+-- The scan tells whether there is room.
+use mathlib.Core.Path.{sym}
+use Rattle.slices.proofs.StoreLaws.{stored_not}
+use Rattle.lists.proofs.CountLaws.{count_signifiers}
+use borrow.Author.Rules.{rules}
+use Rattle.lists.proofs.put_signifiers.Goals as goal
+
+pub returns-then-out-scan : goal.returns-then-out-scan
+returns-then-out-scan c = sym (stored_not _ _ (rw (count_signifiers _ c.scan_token-scan.ensures) at c.if-out-scan.true))
+
+pub fill_signifiers-requires : goal.fill_signifiers-requires
+fill_signifiers-requires c = rw (count_signifiers _ c.scan_token-scan.ensures) at c.if-out-scan.false
