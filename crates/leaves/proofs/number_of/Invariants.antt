@@ -1,5 +1,4 @@
 -- `number_of` meets its contract. Assumes nothing.
-use borrow.Author.Rules.{rules}
 use Prim.Native.Nat.{◌-◌, ◌≤◌}
 use lib.ListN.{length}
 use Rattle.leaves.proofs.number_of.Given as goal

@@ -1,7 +1,6 @@
 -- `print_hole` meets its contract. Assumes nothing.
 use mathlib.Core.Path.{sym}
 use lib.Seq.{length-take-le}
-use borrow.Author.Rules.{rules}
 use Rattle.leaves.proofs.print_hole.Goals as goal
 
 pub slice_bounds-gap_rests-end-2 : goal.slice_bounds-gap_rests-end-2

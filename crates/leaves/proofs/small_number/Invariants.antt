@@ -1,8 +1,5 @@
 -- `small_number` meets its contract. Assumes nothing.
-use mathlib.Core.Logic.{⊎_elim}
-use borrow.Author.Rules.{rules}
 use Prim.Native.Nat.{◌-◌, ◌≤◌, ◌<◌}
-use native.Mathlib.Omega.{arith}
 use lib.ListN.{length}
 use Rattle.leaves.proofs.small_number.Given as goal
 
