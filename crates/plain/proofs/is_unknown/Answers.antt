@@ -12,8 +12,7 @@ use Rattle.items.specs.Items.{is_letter}
 use Rattle.token.specs.Token.{is_unknown}
 use Rattle.plain.specs.Usual.{unknown_bytes}
 use borrow.Author.Rules.{rules}
-use Rattle.plain.proofs.is_unknown.Statement.{statement}
-use Rattle.plain.proofs.is_unknown.Tie as tie
+use Rattle.plain.proofs.is_unknown.Goals as goal
 
 spelled : (b : ℕ) → 33 ≤ b → b ≤ 126 → is_unknown b ≡ true → contains b unknown_bytes ≡ true
 unfolding is_unknown is_letter within contains
@@ -27,20 +26,14 @@ spelled b l h unknown =
     one true false e t = absurd t
     one false false e t = absurd (not_both e refl)
 
-returns : tie.Need-returns
-returns c = λ e. absurd (not_both e refl)
+pub returns-then-b-lt33 : goal.returns-then-b-lt33
+returns-then-b-lt33 c = λ e. absurd (not_both e refl)
 
-returns-2 : tie.Need-returns-2
-returns-2 c = λ e. absurd (not_both e refl)
+pub returns-then-b-gt126 : goal.returns-then-b-gt126
+returns-then-b-gt126 c = λ e. absurd (not_both e refl)
 
-returns-3 : tie.Need-returns-3
-returns-3 c = λ e. absurd (not_both e refl)
+pub returns-then-before-gt-FEW : goal.returns-then-before-gt-FEW
+returns-then-before-gt-FEW c = λ e. absurd (not_both e refl)
 
-is-unknown-requires : tie.Need-is-unknown-requires
-is-unknown-requires c κs = search rules
-
-returns-4 : tie.Need-returns-4
-returns-4 c = λ e. spelled _ c.before.before.before.if1.false c.before.before.if2.false (sym c.is-unknown.ensures ∙ e)
-
-pub is-unknown-spec : {M : Type 1} → statement M
-is-unknown-spec = tie.close (tie.spec returns returns-2 returns-3 is-unknown-requires returns-4)
+pub returns : goal.returns
+returns c = λ e. spelled _ c.if-b-lt33.false c.if-b-gt126.false (sym c.is_unknown.ensures ∙ e)

@@ -1,0 +1,24 @@
+-- The bytes up to i are all b.
+use mathlib.Core.Path.{refl}
+use Prim.Native.Nat.{◌-◌}
+use mathlib.Core.List.{[], ◌∷◌}
+use lib.ListN.{length}
+use borrow.Author.Tests.{eq-eqb}
+use borrow.Author.Rules.{rules}
+use Rattle.notation.specs.Bytes.{contains}
+use Rattle.plain.specs.Usual.{Run}
+use Rattle.plain.proofs.PieceLaws.{run_first, run_turn}
+use Rattle.plain.proofs.run_end.Goals as goal
+
+pub loop-i-init : goal.loop-i-init
+loop-i-init c = run_first c.requires
+
+pub loop-i-preserved : goal.loop-i-preserved
+unfolding contains
+loop-i-preserved c = run_turn c.loop-i.invariant (search rules) (rw (c.if-line-i.true, eq-eqb _ _ refl))
+
+pub returns-else-line-i : goal.returns-else-line-i
+returns-else-line-i c = c.loop-i.invariant
+
+pub returns : goal.returns
+returns c = c.loop-i.invariant
