@@ -1,0 +1,11 @@
+-- By whether the notice is kept.
+use mathlib.Core.List.{[]}
+use borrow.Author.Rules.{rules}
+use Rattle.writing.proofs.WriteLaws.{is_kept, not_kept}
+use Rattle.writing.proofs.keep.Goals as goal
+
+pub returns-then-kept-lt1024 : goal.returns-then-kept-lt1024
+returns-then-kept-lt1024 c = is_kept c.args.tally c.args.notice [] c.args.out.now c.if-kept-lt1024.true c.write_notice-at.ensures.0 c.write_notice-at.ensures.1 c.counted.ensures
+
+pub returns : goal.returns
+returns c = not_kept c.args.tally c.args.notice [] c.args.out.now c.if-kept-lt1024.false

@@ -1,0 +1,6 @@
+-- The span is that of the notice that is kept.
+use borrow.Author.Rules.{rules}
+use Rattle.writing.proofs.notify.Goals as goal
+
+pub returns : goal.returns
+returns c = rw (← c.span_of-value.ensures) c.keep.ensures
