@@ -1,0 +1,12 @@
+-- The cells written are those of the spines passed.
+use mathlib.Core.Path.{sym, ◌∙◌}
+use Prim.Native.Nat.{◌-◌}
+use native.Mathlib.Omega.{arith}
+use Rattle.header.proofs.ColumnLaws.{Laying, laying_first, laying_turn, laying_past}
+use Rattle.header.proofs.lay_row.Given as goal
+
+abbrev pub invariant-loop-i : goal.invariant-loop-i
+invariant-loop-i l = Laying l.table l.columns l.row l.i
+
+abbrev pub decreases-loop-i : goal.decreases-loop-i
+decreases-loop-i l = l.columns - l.i
