@@ -1,0 +1,31 @@
+-- Both are `*x`, and the first doesn't exchange with the one to its left.
+use native.Mathlib.Omega.{arith}
+use borrow.Author.Rules.{rules}
+use Rattle.slices.specs.Split.{pieces}
+use Rattle.spines.specs.Tokens.{path_tokens}
+use Rattle.lines.proofs.PieceLaws.{piece_at_lem}
+use Rattle.stars.proofs.PairLaws.{exchange_here, right_left, right_not, right_is}
+use Rattle.stars.proofs.exchanges_right.Goals as goal
+
+pub returns-then-left : goal.returns-then-left
+returns-then-left c = right_left (path_tokens c.args.n (pieces 9 c.args.from c.args.line.now)) c.if-left.true
+
+pub slice_bounds-path_token-count : goal.slice_bounds-path_token-count
+slice_bounds-path_token-count c = omega (arith, piece_at_lem c.requires.1.0 c.requires.1.1)
+
+pub slice_bounds-path_token-start : goal.slice_bounds-path_token-start
+slice_bounds-path_token-start c = omega (arith, piece_at_lem c.requires.1.0 c.requires.1.1)
+
+pub slice_bounds-path_token-end : goal.slice_bounds-path_token-end
+slice_bounds-path_token-end c = omega (arith, piece_at_lem c.requires.1.0 c.requires.1.1)
+
+pub overflow_add-end : goal.overflow_add-end
+overflow_add-end c = omega (arith, piece_at_lem c.requires.1.0 c.requires.1.1)
+
+pub returns-then-is_exchange : goal.returns-then-is_exchange
+returns-then-is_exchange c = let p = piece_at_lem c.requires.1.0 c.requires.1.1 in
+    right_is c.requires.0 p c.if-left.false (exchange_here c.requires.0 p c.path_token.ensures c.is_exchange.ensures) c.if-is_exchange.true c.exchange_at.ensures
+
+pub returns : goal.returns
+returns c = right_not (path_tokens c.args.n (pieces 9 c.args.from c.args.line.now)) c.args.left
+    (exchange_here c.requires.0 (piece_at_lem c.requires.1.0 c.requires.1.1) c.path_token.ensures c.is_exchange.ensures) c.if-is_exchange.false
