@@ -1,0 +1,6 @@
+-- Each field fits its bytes.
+use borrow.Author.Rules.{rules}
+use Rattle.notes.proofs.note_at.Goals as goal
+
+pub returns : goal.returns
+returns c = rw c.flags_of-flags.ensures
