@@ -1,0 +1,53 @@
+-- What the whole record comes to is what is left from stretch to stretch.
+use mathlib.Core.Path.{sym, ◌∙◌}
+use Prim.Native.Nat.{◌-◌}
+use native.Mathlib.Omega.{arith}
+use lib.ListN.{length}
+use Rattle.state.proofs.CountLaws.{same_same}
+use Rattle.lines.proofs.PieceLaws.{piece_at_lem}
+use Rattle.notes.proofs.TokenLaws.{kept_same}
+use Rattle.data.specs.Asked.{RightlyAsked}
+use Rattle.data.proofs.PeerLaws.{has_asked}
+use Rattle.data.proofs.DataLaws.{Reading, first_piece, token_here, data_ready, data_past, data_done, data_turn, data_stops, data_ends, data_kept}
+use Rattle.data.proofs.StretchLaws.{whole_rest, data_begun, begun_kept, begun_ready, rest_first, stretch_turn}
+use borrow.Author.Rules.{rules}
+use Rattle.data.proofs.read_data.Goals as goal
+
+pub read_stretch-s-requires : goal.read_stretch-s-requires
+read_stretch-s-requires c = (c.requires.0, (omega (arith, c.requires.1.0), (omega arith, first_piece c.args.line.now)))
+
+pub loop-s-init : goal.loop-s-init
+loop-s-init c = (let r = c.read_stretch-s.ensures c.args.offset in rest_first r.high r.here, tt)
+
+pub returns-then-line-from : goal.returns-then-line-from
+returns-then-line-from c = (data_past c.loop-s.invariant.0 c.if-line-from.true ∙ sym (data_begun (c.read_stretch-s.ensures c.args.offset) c.with_stretch-t.ensures), same_same (begun_kept c.read_stretch-s.result c.with_stretch-t.ensures) c.loop-s.invariant.0.kept)
+
+pub ask-asked-requires : goal.ask-asked-requires
+ask-asked-requires c = let p = (piece_at_lem c.if-line-from.false c.token_end-end.ensures) in (c.loop-s.invariant.1, (p.low, p.high))
+
+pub read_column-step-requires : goal.read_column-step-requires
+read_column-step-requires c = let p = (piece_at_lem c.if-line-from.false c.token_end-end.ensures) in (data_ready c.loop-s.invariant.0 (begun_ready c.read_stretch-s.result c.requires.0 c.read_stretch-s.auto.parts c.with_stretch-t.ensures), (c.requires.1.0, record { inside = c.loop-s-test.true; low = p.low; high = p.high; here = token_here c.loop-s.s.index c.loop-s.invariant.0.here p; asked = has_asked c.args.line.now c.args.row.now c.loop-s.asked c.ask-asked.ensures.0 }))
+
+pub returns-in-Refused : goal.returns-in-Refused
+returns-in-Refused c = (data_stops c.loop-s.invariant.0 c.read_column-step.new.parts c.read_column-step.new.out c.read_column-step.result c.loop-s-test.true (piece_at_lem c.if-line-from.false c.token_end-end.ensures) c.read_column-step.ensures.0 c.read_column-step.ensures.1 c.in-Refused.is ∙ sym (data_begun (c.read_stretch-s.ensures c.args.offset) c.with_stretch-t.ensures), kept_same (begun_kept c.read_stretch-s.result c.with_stretch-t.ensures) c.read_column-step.result (data_kept c.loop-s.invariant.0 c.read_column-step.new.parts c.read_column-step.new.out c.read_column-step.result c.loop-s-test.true (piece_at_lem c.if-line-from.false c.token_end-end.ensures) c.read_column-step.ensures.0 c.read_column-step.ensures.1))
+
+pub returns-in-Ends : goal.returns-in-Ends
+returns-in-Ends c = (data_ends c.loop-s.invariant.0 c.read_column-step.new.parts c.read_column-step.new.out c.read_column-step.result c.loop-s-test.true (piece_at_lem c.if-line-from.false c.token_end-end.ensures) c.read_column-step.ensures.0 c.read_column-step.ensures.1 c.in-Ends.is ∙ sym (data_begun (c.read_stretch-s.ensures c.args.offset) c.with_stretch-t.ensures), kept_same (begun_kept c.read_stretch-s.result c.with_stretch-t.ensures) c.read_column-step.result (data_kept c.loop-s.invariant.0 c.read_column-step.new.parts c.read_column-step.new.out c.read_column-step.result c.loop-s-test.true (piece_at_lem c.if-line-from.false c.token_end-end.ensures) c.read_column-step.ensures.0 c.read_column-step.ensures.1))
+
+pub overflow_add-end : goal.overflow_add-end
+overflow_add-end c = let p = (piece_at_lem c.if-line-from.false c.token_end-end.ensures) in omega (arith, p.high, c.requires.1.0)
+
+pub overflow_add-i : goal.overflow_add-i
+overflow_add-i c = omega (arith, c.loop-s-test.true, c.requires.0.cells_long)
+
+pub read_stretch-s-requires-in-Goes : goal.read_stretch-s-requires-in-Goes
+read_stretch-s-requires-in-Goes c = let r = data_turn c.loop-s.invariant.0 c.read_column-step.new.parts c.read_column-step.new.out c.read_column-step.result c.loop-s-test.true (piece_at_lem c.if-line-from.false c.token_end-end.ensures) c.read_column-step.ensures.0 c.read_column-step.ensures.1 c.in-Goes.is c.read_column-step.auto.parts c.read_column-step.auto.out in (data_ready r (begun_ready c.read_stretch-s.result c.requires.0 c.read_stretch-s.auto.parts c.with_stretch-t.ensures), (omega (arith, c.requires.1.0), (r.high, r.here)))
+
+pub loop-s-smaller : goal.loop-s-smaller
+loop-s-smaller c = omega (arith, c.loop-s-test.true, (c.read_stretch-s-in-Goes.ensures c.args.offset).low)
+
+pub loop-s-preserved : goal.loop-s-preserved
+loop-s-preserved c = (let r = data_turn c.loop-s.invariant.0 c.read_column-step.new.parts c.read_column-step.new.out c.read_column-step.result c.loop-s-test.true (piece_at_lem c.if-line-from.false c.token_end-end.ensures) c.read_column-step.ensures.0 c.read_column-step.ensures.1 c.in-Goes.is c.read_column-step.auto.parts c.read_column-step.auto.out in stretch_turn r (c.read_stretch-s-in-Goes.ensures c.args.offset) c.with_stretch-t-in-Goes.ensures c.read_stretch-s-in-Goes.auto.parts c.read_stretch-s-in-Goes.auto.out, c.ask-asked.ensures.1)
+
+pub returns : goal.returns
+returns c = (data_done c.loop-s.invariant.0 c.loop-s-test.false ∙ sym (data_begun (c.read_stretch-s.ensures c.args.offset) c.with_stretch-t.ensures), same_same (begun_kept c.read_stretch-s.result c.with_stretch-t.ensures) c.loop-s.invariant.0.kept)
