@@ -1,6 +1,5 @@
 -- Each interpretation sets its cells.
 use mathlib.Core.Path.{refl}
-use borrow.Author.Rules.{rules}
 use Rattle.tandem.proofs.CellLaws.{by_case, by_name}
 use Rattle.tandem.proofs.change.Goals as goal
 

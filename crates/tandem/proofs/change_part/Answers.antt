@@ -2,7 +2,6 @@
 use mathlib.Core.Path.{◌≡◌}
 use Prim.Native.Nat.{◌+◌, ◌-◌, ◌*◌}
 use native.Mathlib.Omega.{arith}
-use borrow.Author.Rules.{rules}
 use Rattle.sheet.specs.Record.{span_of}
 use Rattle.tandem.proofs.CellLaws.{part_changed}
 use Rattle.tandem.proofs.change_part.Goals as goal

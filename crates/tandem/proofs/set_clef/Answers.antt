@@ -1,6 +1,5 @@
 -- Cell 15.
 use native.Mathlib.Omega.{arith}
-use borrow.Author.Rules.{rules}
 use Rattle.tandem.proofs.CellLaws.{set_clef}
 use Rattle.tandem.proofs.set_clef.Goals as goal
 

@@ -1,6 +1,5 @@
 -- Cells 19 to 21, of which the last is the part's mode.
 use native.Mathlib.Omega.{arith}
-use borrow.Author.Rules.{rules}
 use Rattle.tandem.proofs.CellLaws.{set_key}
 use Rattle.tandem.proofs.set_key.Goals as goal
 

@@ -1,6 +1,5 @@
 -- Cells 16 and 17.
 use native.Mathlib.Omega.{arith}
-use borrow.Author.Rules.{rules}
 use Rattle.tandem.proofs.CellLaws.{set_meter}
 use Rattle.tandem.proofs.set_meter.Goals as goal
 

@@ -1,6 +1,5 @@
 -- Cells 5 and 21.
 use native.Mathlib.Omega.{arith}
-use borrow.Author.Rules.{rules}
 use Rattle.tandem.proofs.CellLaws.{set_mode}
 use Rattle.tandem.proofs.set_mode.Goals as goal
 

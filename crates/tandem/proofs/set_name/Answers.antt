@@ -1,5 +1,4 @@
 -- Cells 0 to 2.
-use borrow.Author.Rules.{rules}
 use Rattle.tandem.proofs.CellLaws.{set_name}
 use Rattle.tandem.proofs.set_name.Goals as goal
 

@@ -1,5 +1,4 @@
 -- Cells 3 and 4.
-use borrow.Author.Rules.{rules}
 use Rattle.tandem.proofs.CellLaws.{set_short}
 use Rattle.tandem.proofs.set_short.Goals as goal
 

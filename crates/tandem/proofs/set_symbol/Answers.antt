@@ -1,6 +1,5 @@
 -- Cell 18.
 use native.Mathlib.Omega.{arith}
-use borrow.Author.Rules.{rules}
 use Rattle.tandem.proofs.CellLaws.{set_symbol}
 use Rattle.tandem.proofs.set_symbol.Goals as goal
 

@@ -1,6 +1,5 @@
 -- Cell 22.
 use native.Mathlib.Omega.{arith}
-use borrow.Author.Rules.{rules}
 use Rattle.tandem.proofs.CellLaws.{set_tempo}
 use Rattle.tandem.proofs.set_tempo.Goals as goal
 
