@@ -1,9 +1,7 @@
 -- The tokens left decide, as those passed begin `**`.
 use borrow.Author.Rules.{rules}
 use native.Mathlib.Omega.{arith}
-use Prim.Native.Nat.{◌+◌, ◌-◌}
-use lib.ListN.{length}
-use Rattle.header.proofs.ColumnLaws.{Asked, asked_first, asked_turn, asked_not, asked_past}
+use Rattle.header.proofs.ColumnLaws.{asked_first, asked_turn, asked_not, asked_past}
 use Rattle.lines.proofs.PieceLaws.{end_low}
 use Rattle.header.proofs.all_exclusive.Goals as goal
 

@@ -1,9 +1,6 @@
 -- The cells passed are 0.
-use borrow.Author.Rules.{rules}
-use lib.ListN.{length}
-use Prim.Native.Nat.{◌-◌}
 use native.Mathlib.Omega.{arith}
-use Rattle.header.proofs.FreshLaws.{Clearing, clearing_first, clearing_turn, clearing_past}
+use Rattle.header.proofs.FreshLaws.{clearing_first, clearing_turn, clearing_past}
 use Rattle.header.proofs.clear.Goals as goal
 
 pub loop-i-init : goal.loop-i-init

@@ -1,9 +1,7 @@
 -- The cells passed are 0.
-use borrow.Author.Rules.{rules}
 use lib.ListN.{length}
 use Prim.Native.Nat.{◌-◌}
-use native.Mathlib.Omega.{arith}
-use Rattle.header.proofs.FreshLaws.{Clearing, clearing_first, clearing_turn, clearing_past}
+use Rattle.header.proofs.FreshLaws.{Clearing}
 use Rattle.header.proofs.clear.Given as goal
 
 abbrev pub invariant-loop-i : goal.invariant-loop-i

@@ -1,7 +1,6 @@
 -- By whether the token is `**kern`.
 use mathlib.Core.Path.{sym, ◌∙◌}
 use Rattle.header.proofs.ColumnLaws.{column_kern, column_other}
-use borrow.Author.Rules.{rules}
 use Rattle.header.proofs.column_of.Goals as goal
 
 pub returns-then-is_kern : goal.returns-then-is_kern

@@ -1,5 +1,4 @@
 -- The table's cells make the first row.
-use borrow.Author.Rules.{rules}
 use Rattle.header.proofs.ColumnLaws.{row_laid}
 use Rattle.header.proofs.fill_row.Goals as goal
 

@@ -1,5 +1,4 @@
 -- Of cells of 0, with the part's number in two, the part is fresh.
-use borrow.Author.Rules.{rules}
 use Rattle.header.proofs.FreshLaws.{fresh_cells}
 use Rattle.header.proofs.fresh_part.Goals as goal
 

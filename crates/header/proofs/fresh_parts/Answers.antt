@@ -1,8 +1,7 @@
 -- The parts passed are fresh.
 use mathlib.Core.Path.{sym, ◌∙◌}
-use Prim.Native.Nat.{◌-◌}
 use native.Mathlib.Omega.{arith}
-use Rattle.header.proofs.FreshLaws.{Freshening, freshening_first, freshening_turn, freshening_past}
+use Rattle.header.proofs.FreshLaws.{freshening_first, freshening_turn, freshening_past}
 use Rattle.header.proofs.fresh_parts.Goals as goal
 
 pub loop-p-init : goal.loop-p-init

@@ -2,7 +2,6 @@
 use Prim.Native.Nat.{◌*◌, ◌+◌, ◌-◌}
 use mathlib.Core.Path.{refl}
 use native.Mathlib.Omega.{arith}
-use borrow.Author.Rules.{rules}
 use Rattle.header.proofs.FreshLaws.{fresh_back}
 use Rattle.header.proofs.lay_part.Goals as goal
 

@@ -1,8 +1,7 @@
 -- The cells written are those of the spines passed.
 use mathlib.Core.Path.{sym, ◌∙◌}
-use Prim.Native.Nat.{◌-◌}
 use native.Mathlib.Omega.{arith}
-use Rattle.header.proofs.ColumnLaws.{Laying, laying_first, laying_turn, laying_past}
+use Rattle.header.proofs.ColumnLaws.{laying_first, laying_turn, laying_past}
 use Rattle.header.proofs.lay_row.Goals as goal
 
 pub loop-i-init : goal.loop-i-init

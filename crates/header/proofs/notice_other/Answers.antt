@@ -1,6 +1,5 @@
 -- By whether the token is `**kern`.
 use mathlib.Core.Path.{sym, ◌∙◌}
-use borrow.Author.Rules.{rules}
 use Rattle.header.proofs.NoticeLaws.{other_kern, other_told}
 use Rattle.header.proofs.notice_other.Goals as goal
 

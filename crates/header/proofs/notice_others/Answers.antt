@@ -1,9 +1,7 @@
 -- The notices of the tokens left, laid from here, are all of them, laid from the start.
 use borrow.Author.Rules.{rules}
-use lib.ListN.{length}
-use Prim.Native.Nat.{◌+◌, ◌-◌}
 use native.Mathlib.Omega.{arith}
-use Rattle.header.proofs.NoticeLaws.{Noticing, noticing_first, noticing_room, token_short, noticing_turn, noticing_past}
+use Rattle.header.proofs.NoticeLaws.{noticing_first, noticing_room, token_short, noticing_turn, noticing_past}
 use Rattle.lines.proofs.PieceLaws.{end_low}
 use Rattle.header.proofs.notice_others.Goals as goal
 

@@ -1,7 +1,5 @@
 -- Question by question; then the row, the parts and the notices.
 use mathlib.Core.Path.{sym, ◌∙◌}
-use borrow.Author.Rules.{rules}
-use borrow.Author.Tests.{not-true, not-false}
 use Rattle.header.proofs.HeaderLaws.{stops_3, stops_4, stops_5, header_told}
 use Rattle.header.proofs.read_header.Goals as goal
 

@@ -1,6 +1,5 @@
 -- By what the key names; the pieces of a record stand inside its line.
 use native.Mathlib.Omega.{arith}
-use borrow.Author.Rules.{rules}
 use Rattle.header.proofs.HeaderLaws.{value_low, key_low, title_told, composer_told, lyricist_told, other_key_told}
 use Rattle.header.proofs.read_reference.Goals as goal
 

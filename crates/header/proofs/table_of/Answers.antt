@@ -1,10 +1,8 @@
 -- The spines written, and the columns of the tokens left, make the first row.
 use mathlib.Core.Path.{refl}
 use borrow.Author.Rules.{rules}
-use lib.ListN.{length}
-use Prim.Native.Nat.{◌+◌, ◌-◌}
 use native.Mathlib.Omega.{arith}
-use Rattle.header.proofs.ColumnLaws.{Filling, filling_first, filling_room, filling_turn, filling_past}
+use Rattle.header.proofs.ColumnLaws.{filling_first, filling_room, filling_turn, filling_past}
 use Rattle.lines.proofs.PieceLaws.{end_low}
 use Rattle.header.proofs.table_of.Goals as goal
 

@@ -1,6 +1,5 @@
 -- No articulations have no bytes.
 use native.Mathlib.Omega.{arith}
-use borrow.Author.Rules.{rules}
 use Rattle.slices.proofs.StoreLaws.{stored_tail}
 use Rattle.lists.specs.Lists.{articulation_bytes}
 use Rattle.writing.proofs.WriteLaws.{none_put}

@@ -1,7 +1,6 @@
 -- No pitches have no bytes.
 use mathlib.Core.Path.{◌∙◌}
 use native.Mathlib.Omega.{arith}
-use borrow.Author.Rules.{rules}
 use Rattle.slices.proofs.StoreLaws.{stored_tail}
 use Rattle.token.specs.Outcome.{note_pitches}
 use Rattle.lists.specs.Lists.{pitch_bytes}

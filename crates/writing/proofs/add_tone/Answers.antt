@@ -1,7 +1,6 @@
 -- No pitch has no bytes; the one that there is has three.
 use mathlib.Core.Path.{ap, ◌∙◌}
 use native.Mathlib.Omega.{arith}
-use borrow.Author.Rules.{rules}
 use Rattle.slices.specs.Store.{stored}
 use Rattle.slices.proofs.StoreLaws.{stored_tail}
 use Rattle.token.specs.Outcome.{note_pitches}

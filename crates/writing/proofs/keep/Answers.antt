@@ -1,6 +1,5 @@
 -- By whether the notice is kept.
 use mathlib.Core.List.{[]}
-use borrow.Author.Rules.{rules}
 use Rattle.writing.proofs.WriteLaws.{is_kept, not_kept}
 use Rattle.writing.proofs.keep.Goals as goal
 

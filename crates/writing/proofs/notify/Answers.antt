@@ -1,5 +1,4 @@
 -- The span is that of the notice that is kept.
-use borrow.Author.Rules.{rules}
 use Rattle.writing.proofs.notify.Goals as goal
 
 pub returns : goal.returns

@@ -1,5 +1,4 @@
 -- By whether the notice is kept; the count is that of the signifiers.
-use borrow.Author.Rules.{rules}
 use Rattle.items.specs.Items.{items}
 use Rattle.token.specs.Token.{signifiers_of}
 use Rattle.writing.specs.Kept.{signifiers_notice}

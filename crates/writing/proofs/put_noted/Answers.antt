@@ -1,7 +1,6 @@
 -- The lists go behind the NOTE where all fits.
 use mathlib.Core.Path.{sym}
 use native.Mathlib.Omega.{arith}
-use borrow.Author.Rules.{rules}
 use Rattle.slices.proofs.StoreLaws.{stored_not}
 use Rattle.writing.proofs.WriteLaws.{noted, noted_length}
 use Rattle.writing.proofs.put_noted.Goals as goal

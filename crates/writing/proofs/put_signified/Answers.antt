@@ -3,7 +3,6 @@ use mathlib.Core.Path.{sym, ◌∙◌, ◌≡◌, ap}
 use Prim.Native.Nat.{◌+◌, ◌≤◌}
 use native.Mathlib.Omega.{arith}
 use lib.ListN.{length}
-use borrow.Author.Rules.{rules}
 use Rattle.slices.proofs.StoreLaws.{stored_not, stored_tail}
 use Rattle.items.specs.Items.{items}
 use Rattle.token.specs.Token.{signifiers_of}

@@ -1,6 +1,5 @@
 -- The end of the buffer comes back with the BAR at its start.
 use mathlib.Core.Path.{refl}
-use borrow.Author.Rules.{rules}
 use Rattle.sheet.specs.Record.{BAR, record_bytes}
 use Rattle.sheet.proofs.BarLaws.{bar_length}
 use Rattle.writing.proofs.WriteLaws.{wrote}

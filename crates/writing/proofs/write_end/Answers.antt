@@ -1,6 +1,5 @@
 -- The end of the buffer comes back with END at its start.
 use mathlib.Core.Path.{refl}
-use borrow.Author.Rules.{rules}
 use Rattle.sheet.specs.Record.{END, record_bytes}
 use Rattle.sheet.proofs.EndLaws.{end_length}
 use Rattle.writing.proofs.WriteLaws.{wrote}

@@ -1,6 +1,5 @@
 -- The end of the buffer comes back with the NOTE and its lists at its start.
 use mathlib.Core.Path.{refl}
-use borrow.Author.Rules.{rules}
 use Rattle.writing.specs.Kept.{note_record}
 use Rattle.writing.proofs.WriteLaws.{wrote, noted_length}
 use Rattle.writing.proofs.write_note.Goals as goal

@@ -1,6 +1,5 @@
 -- The end of the buffer comes back with the NOTICE at its start.
 use mathlib.Core.List.{[]}
-use borrow.Author.Rules.{rules}
 use Rattle.sheet.specs.Record.{NOTICE}
 use Rattle.sheet.proofs.NoticeLaws.{notice_length}
 use Rattle.writing.proofs.WriteLaws.{wrote, notice_alone}

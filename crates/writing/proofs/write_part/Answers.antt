@@ -1,6 +1,5 @@
 -- The end of the buffer comes back with the PART at its start.
 use mathlib.Core.Path.{refl}
-use borrow.Author.Rules.{rules}
 use Rattle.sheet.specs.Record.{PART, record_bytes}
 use Rattle.sheet.proofs.PartLaws.{part_length}
 use Rattle.writing.proofs.WriteLaws.{wrote}

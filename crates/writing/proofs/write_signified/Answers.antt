@@ -1,7 +1,6 @@
 -- The end of the buffer comes back with the NOTICE and the signifiers at its start.
 use mathlib.Core.Path.{refl, ◌∙◌, ap, sym}
 use Prim.Native.Nat.{ℕ, ◌+◌}
-use borrow.Author.Rules.{rules}
 use Rattle.items.specs.Items.{items}
 use Rattle.token.specs.Token.{signifiers_of}
 use Rattle.sheet.specs.Record.{NOTICE}
