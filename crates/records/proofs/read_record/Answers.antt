@@ -1,0 +1,19 @@
+use mathlib.Core.Path.{refl}
+use Rattle.records.proofs.RecordLaws.{here_same, even_same, none_told, uneven_told, mixed_told, even_told}
+use borrow.Author.Rules.{rules}
+use Rattle.records.proofs.read_record.Goals as goal
+
+pub returns-then-active-eq0 : goal.returns-then-active-eq0
+returns-then-active-eq0 c = none_told c.requires.0.under c.args.line.now c.args.out.now c.args.number c.args.offset c.notify-noticed.result _ c.if-active-eq0.true refl c.notify-noticed.ensures
+
+pub read_even-requires : goal.read_even-requires
+read_even-requires c = (here_same c.notice_repair-noticed.ensures.same c.requires.0, (c.requires.1, even_same c.args.line.now c.notice_repair-noticed.ensures.same c.repair_record.ensures c.in-Even.is))
+
+pub returns-in-Uneven : goal.returns-in-Uneven
+returns-in-Uneven c = uneven_told c.requires.0.under c.args.line.now c.args.out.now c.args.number c.args.offset c.if-active-eq0.false c.repair_record.ensures c.in-Uneven.is
+
+pub returns-in-Mixed : goal.returns-in-Mixed
+returns-in-Mixed c = mixed_told c.requires.0.under c.args.line.now c.args.out.now c.args.number c.args.offset c.if-active-eq0.false c.repair_record.ensures c.in-Mixed.is
+
+pub returns-in-Even : goal.returns-in-Even
+returns-in-Even c = even_told c.requires.0.under c.args.line.now c.args.out.now c.args.number c.args.offset c.if-active-eq0.false c.repair_record.ensures c.notice_repair-noticed.result _ _ c.in-Even.is c.requires.1 c.notice_repair-noticed.ensures.told c.notice_repair-noticed.ensures.same c.read_even.ensures
