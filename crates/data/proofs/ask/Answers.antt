@@ -1,6 +1,5 @@
 -- The record is asked once, at its first bare token.
 use Rattle.data.proofs.PeerLaws.{asks, asked_before, asks_not}
-use borrow.Author.Rules.{rules}
 use Rattle.data.proofs.ask.Goals as goal
 
 pub returns-in-Unasked : goal.returns-in-Unasked

@@ -1,6 +1,5 @@
 -- A bare token gets what the record gave.
 use Rattle.data.proofs.PeerLaws.{infers_unasked, infers_given, infers_not}
-use borrow.Author.Rules.{rules}
 use Rattle.data.proofs.infer.Goals as goal
 
 pub returns-in-Unasked : goal.returns-in-Unasked

@@ -3,7 +3,6 @@ use Rattle.state.proofs.CountLaws.{same}
 use Rattle.state.specs.View.{state_of}
 use Rattle.data.proofs.PeerLaws.{infers}
 use Rattle.data.proofs.ColumnLaws.{column_outside, column_branch, column_line, column_sited}
-use borrow.Author.Rules.{rules}
 use Rattle.data.proofs.read_column.Goals as goal
 
 pub returns-then-cell-lt8 : goal.returns-then-cell-lt8

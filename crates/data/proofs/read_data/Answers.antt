@@ -1,16 +1,12 @@
 -- What the whole record comes to is what is left from stretch to stretch.
 use mathlib.Core.Path.{sym, ◌∙◌}
-use Prim.Native.Nat.{◌-◌}
 use native.Mathlib.Omega.{arith}
-use lib.ListN.{length}
 use Rattle.state.proofs.CountLaws.{same_same}
 use Rattle.lines.proofs.PieceLaws.{piece_at_lem}
 use Rattle.notes.proofs.TokenLaws.{kept_same}
-use Rattle.data.specs.Asked.{RightlyAsked}
 use Rattle.data.proofs.PeerLaws.{has_asked}
-use Rattle.data.proofs.DataLaws.{Reading, first_piece, token_here, data_ready, data_past, data_done, data_turn, data_stops, data_ends, data_kept}
-use Rattle.data.proofs.StretchLaws.{whole_rest, data_begun, begun_kept, begun_ready, rest_first, stretch_turn}
-use borrow.Author.Rules.{rules}
+use Rattle.data.proofs.DataLaws.{first_piece, token_here, data_ready, data_past, data_done, data_turn, data_stops, data_ends, data_kept}
+use Rattle.data.proofs.StretchLaws.{data_begun, begun_kept, begun_ready, rest_first, stretch_turn}
 use Rattle.data.proofs.read_data.Goals as goal
 
 pub read_stretch-s-requires : goal.read_stretch-s-requires

@@ -1,16 +1,9 @@
 -- What the whole record comes to is what is left from stretch to stretch.
-use mathlib.Core.Path.{sym, ◌∙◌}
 use Prim.Native.Nat.{◌-◌}
-use native.Mathlib.Omega.{arith}
 use lib.ListN.{length}
-use Rattle.state.proofs.CountLaws.{same_same}
-use Rattle.lines.proofs.PieceLaws.{piece_at_lem}
-use Rattle.notes.proofs.TokenLaws.{kept_same}
 use Rattle.data.specs.Asked.{RightlyAsked}
-use Rattle.data.proofs.PeerLaws.{has_asked}
-use Rattle.data.proofs.DataLaws.{Reading, first_piece, token_here, data_ready, data_past, data_done, data_turn, data_stops, data_ends, data_kept}
-use Rattle.data.proofs.StretchLaws.{whole_rest, data_begun, begun_kept, begun_ready, rest_first, stretch_turn}
-use borrow.Author.Rules.{rules}
+use Rattle.data.proofs.DataLaws.{Reading}
+use Rattle.data.proofs.StretchLaws.{whole_rest}
 use Rattle.data.proofs.read_data.Given as goal
 
 abbrev pub invariant-loop-s : goal.invariant-loop-s

@@ -1,14 +1,8 @@
 -- What was left before the stretch is what is left from column to column.
-use Prim.Native.Nat.{ℕ, ◌-◌, ◌≤◌}
 use native.Mathlib.Omega.{arith}
-use lib.ListN.{length}
-use borrow.Author.Tests.{not-false}
 use Rattle.lines.proofs.PieceLaws.{piece_at_lem}
-use Rattle.data.specs.Stretch.{counts_at}
 use Rattle.data.proofs.ShapeLaws.{null_end, note_end, note_column}
-use Rattle.data.proofs.DataLaws.{Reading}
-use Rattle.data.proofs.StretchLaws.{whole_rest, stretch_first, outside_turn, null_turn, note_turn, note_sited, stretch_ends}
-use borrow.Author.Rules.{rules}
+use Rattle.data.proofs.StretchLaws.{stretch_first, outside_turn, null_turn, note_turn, note_sited, stretch_ends}
 use Rattle.data.proofs.read_stretch.Goals as goal
 
 pub loop-i-init : goal.loop-i-init

@@ -1,5 +1,4 @@
 -- The first pitch of a sub-token stays.
-use borrow.Author.Rules.{rules}
 use Rattle.lists.proofs.begin.Goals as goal
 
 pub returns-in-Of : goal.returns-in-Of

@@ -1,9 +1,7 @@
 -- What is stored, and what the bytes left give, are all.
 use Prim.Native.Nat.{◌-◌}
-use native.Mathlib.Omega.{arith}
 use lib.ListN.{length}
-use Rattle.lists.proofs.FillLaws.{fill_length}
-use Rattle.lists.proofs.ByteLaws.{Marking, mark_first, mark_room, mark_turn, mark_past}
+use Rattle.lists.proofs.ByteLaws.{Marking}
 use Rattle.lists.proofs.fill_articulations.Given as goal
 
 abbrev pub invariant-loop-i : goal.invariant-loop-i

@@ -1,7 +1,6 @@
 -- None or one byte is stored.
 use Rattle.lists.proofs.FillLaws.{none_put, one_put, one_room}
 use Rattle.lists.proofs.ByteLaws.{is_articulation, no_articulation}
-use borrow.Author.Rules.{rules}
 use Rattle.lists.proofs.put_articulation.Goals as goal
 
 pub bounds-out-k : goal.bounds-out-k

@@ -2,7 +2,6 @@
 use mathlib.Core.Path.{sym}
 use Rattle.slices.proofs.StoreLaws.{stored_not}
 use Rattle.lists.proofs.CountLaws.{count_articulations}
-use borrow.Author.Rules.{rules}
 use Rattle.lists.proofs.put_articulations.Goals as goal
 
 pub returns-then-out-scan : goal.returns-then-out-scan

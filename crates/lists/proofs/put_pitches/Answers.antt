@@ -1,6 +1,5 @@
 -- The scan tells whether there is room, and whether the token is a rest.
 use Rattle.lists.proofs.CountLaws.{rest_bytes, no_rest, pitches_long, pitches_fit}
-use borrow.Author.Rules.{rules}
 use Rattle.lists.proofs.put_pitches.Goals as goal
 
 pub returns-then-scan : goal.returns-then-scan

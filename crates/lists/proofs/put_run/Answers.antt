@@ -1,6 +1,5 @@
 -- The bytes are stored at the start of what is behind k.
 use mathlib.Core.Path.{refl}
-use borrow.Author.Rules.{rules}
 use Rattle.slices.proofs.StoreLaws.{stored_tail}
 use Rattle.lists.proofs.put_run.Goals as goal
 

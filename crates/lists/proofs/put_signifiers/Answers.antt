@@ -2,7 +2,6 @@
 use mathlib.Core.Path.{sym}
 use Rattle.slices.proofs.StoreLaws.{stored_not}
 use Rattle.lists.proofs.CountLaws.{count_signifiers}
-use borrow.Author.Rules.{rules}
 use Rattle.lists.proofs.put_signifiers.Goals as goal
 
 pub returns-then-out-scan : goal.returns-then-out-scan

@@ -4,7 +4,6 @@ use native.Mathlib.Omega.{arith}
 use lib.ListN.{length-set}
 use Rattle.lists.proofs.FillLaws.{none_put, three_put, three_room}
 use Rattle.lists.proofs.ItemLaws.{no_sound, a_sound}
-use borrow.Author.Rules.{rules}
 use Rattle.lists.proofs.put_sound.Goals as goal
 
 pub returns-in-Silence : goal.returns-in-Silence

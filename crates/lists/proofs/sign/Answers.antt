@@ -1,5 +1,4 @@
 -- A mark alters the pitch, if there is one.
-use borrow.Author.Rules.{rules}
 use Rattle.lists.proofs.sign.Goals as goal
 
 pub returns-in-Of : goal.returns-in-Of

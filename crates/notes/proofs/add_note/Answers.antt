@@ -5,7 +5,6 @@ use Rattle.sheet.specs.declared.Note.{Note as NoteWritten}
 use Rattle.token.proofs.FewLaws.{gives}
 use Rattle.state.specs.View.{state_of}
 use Rattle.notes.proofs.TokenLaws.{note_added, note_refused, note_same}
-use borrow.Author.Rules.{rules}
 use Rattle.notes.proofs.add_note.Goals as goal
 
 pub note_at-note-requires : goal.note_at-note-requires

@@ -1,5 +1,4 @@
 -- Each field fits its bytes.
-use borrow.Author.Rules.{rules}
 use Rattle.notes.proofs.note_at.Goals as goal
 
 pub returns : goal.returns

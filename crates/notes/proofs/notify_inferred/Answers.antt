@@ -1,6 +1,5 @@
 -- Notice 20 is kept or nothing is.
 use Rattle.notes.proofs.NoticeLaws.{inferred_yes, inferred_no}
-use borrow.Author.Rules.{rules}
 use Rattle.notes.proofs.notify_inferred.Goals as goal
 
 pub returns-then-inferred : goal.returns-then-inferred

@@ -4,7 +4,6 @@ use lib.ListN.{length}
 use Rattle.sheet.specs.Record.{span_of}
 use Rattle.writing.specs.Kept.{notice_of}
 use Rattle.notes.proofs.NoticeLaws.{noticed_by, notify_is}
-use borrow.Author.Rules.{rules}
 use Rattle.notes.proofs.notify_token.Goals as goal
 
 pub returns : goal.returns

@@ -6,7 +6,6 @@ use Rattle.token.specs.Outcome.{outcome_of}
 use Rattle.token.specs.declared.scan.Scan.{Scan}
 use Rattle.token.proofs.AccountLaws.{heard_lists}
 use Rattle.notes.proofs.TokenLaws.{null_step, silent_step, unread_step, heard_step, kept_same}
-use borrow.Author.Rules.{rules}
 use Rattle.notes.proofs.read_token.Goals as goal
 
 pub returns-then-is_null : goal.returns-then-is_null

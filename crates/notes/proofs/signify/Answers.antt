@@ -9,7 +9,6 @@ use Rattle.token.proofs.FewLaws.{gives}
 use Rattle.writing.specs.Kept.{signifiers_notice}
 use Rattle.notes.proofs.ReportLaws.{reports_none, reports, signifiers_are}
 use Rattle.notes.proofs.NoticeLaws.{noticed_none, noticed_by, signify_none, signify_as}
-use borrow.Author.Rules.{rules}
 use Rattle.notes.proofs.signify.Goals as goal
 
 pub returns-then-scan : goal.returns-then-scan

@@ -1,5 +1,4 @@
 -- The cell of the voice's beam and the cell of the note in the bar are all that changes.
-use borrow.Author.Rules.{rules}
 use Rattle.notes.proofs.BeamLaws.{sounding}
 use Rattle.notes.proofs.sound.Goals as goal
 

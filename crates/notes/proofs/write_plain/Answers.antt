@@ -8,7 +8,6 @@ use Rattle.state.specs.Lay.{laid, behind}
 use Rattle.writing.specs.Kept.{note_record}
 use Rattle.notes.specs.Spot.{note_at}
 use Rattle.notes.proofs.PlainLaws.{plain_lists, plain_alone}
-use borrow.Author.Rules.{rules}
 use Rattle.notes.proofs.write_plain.Goals as goal
 
 pub note_at-note-requires : goal.note_at-note-requires

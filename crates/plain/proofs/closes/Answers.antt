@@ -1,6 +1,5 @@
 -- A token ends where its line does, or at a TAB.
 use borrow.Author.Tests.{eqb-true}
-use borrow.Author.Rules.{rules}
 use Rattle.plain.proofs.closes.Goals as goal
 
 pub returns-then-end-line : goal.returns-then-end-line

@@ -11,7 +11,6 @@ use Rattle.pitch.specs.Pitch.{within}
 use Rattle.items.specs.Items.{is_letter}
 use Rattle.token.specs.Token.{is_unknown}
 use Rattle.plain.specs.Usual.{unknown_bytes}
-use borrow.Author.Rules.{rules}
 use Rattle.plain.proofs.is_unknown.Goals as goal
 
 spelled : (b : ℕ) → 33 ≤ b → b ≤ 126 → is_unknown b ≡ true → contains b unknown_bytes ≡ true

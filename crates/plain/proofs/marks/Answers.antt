@@ -1,12 +1,9 @@
 -- The bytes up to i are marks, and the flags and the count say what they say; no more are articulations than there are bytes.
 use mathlib.Core.Path.{refl}
-use Prim.Native.Nat.{◌≤◌, ◌-◌}
 use native.Mathlib.Omega.{arith}
-use lib.ListN.{length}
 use borrow.Author.Rules.{rules}
 use Rattle.notation.specs.Bytes.{contains}
 use Rattle.token.specs.Token.{articulation}
-use Rattle.plain.specs.Usual.{opened, Marking}
 use Rattle.plain.proofs.ByteLaws.{mark_turn, small, articulation_mark, said_articulation, unknown_mark, said_unknown}
 use Rattle.plain.proofs.PieceLaws.{carried_first, carried_turn}
 use Rattle.plain.proofs.marks.Goals as goal

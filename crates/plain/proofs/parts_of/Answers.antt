@@ -1,6 +1,5 @@
 -- A length is missing, plain, or a tuplet.
 use mathlib.Core.Path.{refl}
-use borrow.Author.Rules.{rules}
 use Rattle.slices.proofs.TestLaws.{not_both}
 use Rattle.plain.proofs.parts_of.Goals as goal
 

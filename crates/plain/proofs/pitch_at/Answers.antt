@@ -1,5 +1,4 @@
 -- No pitch, or a run of one letter with its signs.
-use borrow.Author.Rules.{rules}
 use Rattle.slices.proofs.TestLaws.{not_both}
 use Rattle.plain.proofs.LineLaws.{sung_pitch}
 use Rattle.plain.proofs.pitch_at.Goals as goal

@@ -1,10 +1,7 @@
 -- The bytes up to i are digits, and write the number.
 use mathlib.Core.Path.{refl}
-use Prim.Native.Nat.{◌-◌, ◌≤◌}
 use native.Mathlib.Omega.{arith}
-use lib.ListN.{length}
 use borrow.Author.Rules.{rules}
-use Rattle.plain.specs.Usual.{Numbering}
 use Rattle.plain.proofs.ByteLaws.{digit_in}
 use Rattle.plain.proofs.PieceLaws.{carried_first, carried_turn}
 use Rattle.plain.proofs.reciprocal_at.Goals as goal

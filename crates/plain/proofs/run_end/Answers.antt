@@ -1,12 +1,8 @@
 -- The bytes up to i are all b.
 use mathlib.Core.Path.{refl}
-use Prim.Native.Nat.{◌-◌}
-use mathlib.Core.List.{[], ◌∷◌}
-use lib.ListN.{length}
 use borrow.Author.Tests.{eq-eqb}
 use borrow.Author.Rules.{rules}
 use Rattle.notation.specs.Bytes.{contains}
-use Rattle.plain.specs.Usual.{Run}
 use Rattle.plain.proofs.PieceLaws.{run_first, run_turn}
 use Rattle.plain.proofs.run_end.Goals as goal
 

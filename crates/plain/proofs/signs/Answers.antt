@@ -1,8 +1,5 @@
 -- The bytes up to i are signs, and the alteration is that of all of them.
-use Prim.Native.Nat.{◌-◌}
-use lib.ListN.{length}
 use borrow.Author.Rules.{rules}
-use Rattle.plain.specs.Usual.{Signing}
 use Rattle.plain.proofs.PieceLaws.{carried_first, carried_turn}
 use Rattle.plain.proofs.signs.Goals as goal
 

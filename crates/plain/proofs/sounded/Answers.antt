@@ -1,6 +1,5 @@
 -- The sound, the marks, and the end of the token.
 use mathlib.Core.Path.{refl}
-use borrow.Author.Rules.{rules}
 use Rattle.plain.specs.Usual.{said_of}
 use Rattle.plain.proofs.sounded.Goals as goal
 

@@ -1,5 +1,4 @@
 -- `last_token` meets its contract. Assumes nothing.
-use borrow.Author.Rules.{rules}
 use Prim.Native.Nat.{◌-◌, ◌≤◌}
 use lib.ListN.{length}
 use Rattle.tokens.proofs.last_token.Given as goal

@@ -1,5 +1,4 @@
 -- `print_bytes` meets its contract. Assumes nothing.
-use borrow.Author.Rules.{rules}
 use Prim.Native.Nat.{◌-◌, ◌≤◌}
 use lib.ListN.{length}
 use Rattle.tokens.proofs.print_bytes.Given as goal
