@@ -22,7 +22,8 @@ pub fn content(line: &[u8]) -> usize
 {
     let mut n = line.len();
     while 0 < n {
-        if line[n - 1] != 13 {
+        let kept = line[n - 1] != 13;
+        if kept {
             return n;
         }
         n -= 1;
@@ -100,7 +101,8 @@ pub fn line_kind(line: &[u8]) -> Kind
     if line[1] != b'!' {
         return Kind::Comment;
     }
-    if line[2] == b'!' {
+    let bang = line[2] == b'!';
+    if bang {
         return Kind::Reference;
     }
     Kind::Comment
@@ -110,7 +112,8 @@ pub fn line_kind(line: &[u8]) -> Kind
 pub fn is_null(token: &[u8]) -> bool
     ensures { result ≡ is_null token.now }
 {
-    if token.len() != 1 {
+    let other = token.len() != 1;
+    if other {
         return false;
     }
     token[0] == b'.'

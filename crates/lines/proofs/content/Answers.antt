@@ -5,11 +5,11 @@ use Rattle.lines.proofs.content.Goals as goal
 pub loop-n-init : goal.loop-n-init
 loop-n-init c = trim_first
 
-pub returns-then-line-n-ne13 : goal.returns-then-line-n-ne13
-returns-then-line-n-ne13 c = trim_done c.loop-n.invariant c.loop-n-test.true c.if-line-n-ne13.true
+pub returns-then-kept : goal.returns-then-kept
+returns-then-kept c = trim_done c.loop-n.invariant c.loop-n-test.true c.if-kept.true
 
 pub loop-n-preserved : goal.loop-n-preserved
-loop-n-preserved c = trim_turn c.loop-n.invariant c.loop-n-test.true c.if-line-n-ne13.false
+loop-n-preserved c = trim_turn c.loop-n.invariant c.loop-n-test.true c.if-kept.false
 
 pub returns : goal.returns
 returns c = trim_past c.loop-n.invariant c.loop-n-test.false

@@ -20,8 +20,8 @@ returns-then-line-lt3 c = kind_short _ c.if-line-eq0.false c.if-first-ne33.false
 pub returns-then-line-ne33 : goal.returns-then-line-ne33
 returns-then-line-ne33 c = kind_second _ c.if-line-eq0.false c.if-first-ne33.false c.if-line-lt3.false c.if-line-ne33.true
 
-pub returns-then-line-eq33 : goal.returns-then-line-eq33
-returns-then-line-eq33 c = kind_bangs _ c.if-line-eq0.false c.if-first-ne33.false c.if-line-lt3.false c.if-line-ne33.false c.if-line-eq33.true
+pub returns-then-bang : goal.returns-then-bang
+returns-then-bang c = kind_bangs _ c.if-line-eq0.false c.if-first-ne33.false c.if-line-lt3.false c.if-line-ne33.false c.if-bang.true
 
 pub returns : goal.returns
-returns c = kind_third _ c.if-line-eq0.false c.if-first-ne33.false c.if-line-lt3.false c.if-line-ne33.false c.if-line-eq33.false
+returns c = kind_third _ c.if-line-eq0.false c.if-first-ne33.false c.if-line-lt3.false c.if-line-ne33.false c.if-bang.false
