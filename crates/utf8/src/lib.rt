@@ -47,7 +47,8 @@ pub fn char_length(s: &[u8]) -> usize
     if b < 0x80 {
         return 1;
     }
-    if b < 0xC2 {
+    let no_lead = b < 0xC2;
+    if no_lead {
         return 0;
     }
     if b < 0xE0 {
@@ -203,7 +204,8 @@ fn onward(s: &[u8], i: usize) -> usize
         if 128 <= joined(s, i) {
             return i + 1;
         }
-        if 128 <= joined_16(s, i) {
+        let beyond = 128 <= joined_16(s, i);
+        if beyond {
             return i + 4;
         }
         return blocks_64(s, i + 16);

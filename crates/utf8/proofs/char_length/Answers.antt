@@ -13,9 +13,9 @@ pub returns-then-b-lt128 : goal.returns-then-b-lt128
 unfolding table begins
 returns-then-b-lt128 c = sym (leads _ c.if-s-eq0.false (row 0 (omega arith)) (omega arith) (omega arith))
 
-pub returns-then-b-lt194 : goal.returns-then-b-lt194
+pub returns-then-no_lead : goal.returns-then-no_lead
 unfolding table
-returns-then-b-lt194 c = sym (leads_none _ c.if-s-eq0.false (omega arith))
+returns-then-no_lead c = sym (leads_none _ c.if-s-eq0.false (omega arith))
 
 pub returns-then-b-lt224 : goal.returns-then-b-lt224
 unfolding table

@@ -13,11 +13,11 @@ returns-then-s-i-lt16 c = onward_char c.args.s.now c.args.i (omega arith) c.char
 pub returns-then-joined-ge128 : goal.returns-then-joined-ge128
 returns-then-joined-ge128 c = onward_run (blocks_turn (blocks_first (omega arith)) 1 (omega arith) (run_one c.args.s.now c.args.i c.if-s-i-lt128.true)) (omega arith)
 
-pub returns-then-joined_16-ge128 : goal.returns-then-joined_16-ge128
-returns-then-joined_16-ge128 c = onward_run (blocks_turn (blocks_first (omega arith)) 4 (omega arith) (c.joined.ensures c.if-joined-ge128.false)) (omega arith)
+pub returns-then-beyond : goal.returns-then-beyond
+returns-then-beyond c = onward_run (blocks_turn (blocks_first (omega arith)) 4 (omega arith) (c.joined.ensures c.if-joined-ge128.false)) (omega arith)
 
 pub returns-then-s-i-lt128 : goal.returns-then-s-i-lt128
-returns-then-s-i-lt128 c = onward_run (blocks_on (blocks_turn (blocks_first (omega arith)) 16 (omega arith) (c.joined_16.ensures c.if-joined_16-ge128.false)) c.blocks_64.ensures) (omega (arith, c.blocks_64.ensures.low))
+returns-then-s-i-lt128 c = onward_run (blocks_on (blocks_turn (blocks_first (omega arith)) 16 (omega arith) (c.joined_16-beyond.ensures c.if-beyond.false)) c.blocks_64.ensures) (omega (arith, c.blocks_64.ensures.low))
 
 pub returns-then-two : goal.returns-then-two
 returns-then-two c = onward_run (blocks_on (two_on _ _ (sym c.two.ensures ∙ c.if-two.true)) c.twos.ensures) (omega (arith, c.twos.ensures.low))
