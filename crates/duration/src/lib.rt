@@ -100,12 +100,14 @@ pub fn value_by(n: u32, long: usize) -> Value
         if long == 1 {
             return Value::Plain(1);
         }
-        if long == 2 {
+        let longa = long == 2;
+        if longa {
             return Value::Plain(0);
         }
         return Value::Missing;
     }
-    if 255 < n {
+    let beyond = 255 < n;
+    if beyond {
         return Value::Missing;
     }
     value_of(n)
