@@ -28,7 +28,8 @@ pub fn pitch_of(letter: u8, count: usize) -> Pitch
         return Pitch::Outside;
     }
     if within(b'a', b'g', letter) {
-        if 6 < count {
+        let many = 6 < count;
+        if many {
             return Pitch::Outside;
         }
         return Pitch::At {
