@@ -1,0 +1,7 @@
+use mathlib.Core.Path.{sym, ◌∙◌}
+use borrow.Author.Rules.{rules}
+use Rattle.reader.proofs.AnswerLaws.{read_by_lines, tells}
+use Rattle.reader.proofs.measure.Goals as goal
+
+pub returns : goal.returns
+returns c = tells c.args.text.now _ _ c.run.result (c.run.ensures ∙ sym (read_by_lines c.args.text.now c.requires.0 c.requires.1 _))
