@@ -176,7 +176,8 @@ fn deciding(line: &[u8], row: &[u16]) -> Place
             return Place(0, first);
         }
         let end = lines::token_end(line, from);
-        if 8 <= row[i] {
+        let kern = 8 <= row[i];
+        if kern {
             return Place(from, end - from);
         }
         from = end + 1;

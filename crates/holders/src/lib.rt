@@ -212,7 +212,8 @@ fn branches_of(line: &[u8], row: &[u16], part: usize, header: usize, lines: Hold
             header,
         };
         held = put(held, holder);
-        if voice == 4 {
+        let none = voice == 4;
+        if none {
             return held;
         }
     }
@@ -241,7 +242,8 @@ pub fn kern_column(line: &[u8], part: usize) -> usize
             from = end + 1;
             continue;
         }
-        if left == 0 {
+        let here = left == 0;
+        if here {
             return column;
         }
         left -= 1;

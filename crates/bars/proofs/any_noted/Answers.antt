@@ -1,7 +1,5 @@
 -- The parts from p on decide: those before have no note.
-use Prim.Native.Nat.{◌-◌}
-use native.Mathlib.Omega.{arith}
-use Rattle.bars.proofs.NotedLaws.{Noting, noting_first, noting_found, noting_turn, noting_past}
+use Rattle.bars.proofs.NotedLaws.{noting_first, noting_found, noting_turn, noting_past}
 use Rattle.bars.proofs.any_noted.Goals as goal
 
 pub loop-p-init : goal.loop-p-init

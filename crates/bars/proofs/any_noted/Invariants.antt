@@ -1,7 +1,6 @@
 -- The parts from p on decide: those before have no note.
 use Prim.Native.Nat.{◌-◌}
-use native.Mathlib.Omega.{arith}
-use Rattle.bars.proofs.NotedLaws.{Noting, noting_first, noting_found, noting_turn, noting_past}
+use Rattle.bars.proofs.NotedLaws.{Noting}
 use Rattle.bars.proofs.any_noted.Given as goal
 
 abbrev pub invariant-loop-p : goal.invariant-loop-p

@@ -4,12 +4,10 @@ use Prim.Native.Nat.{◌+◌, ◌*◌, ◌-◌}
 use native.Mathlib.Omega.{arith}
 use mathlib.Core.List.{map}
 use lib.ListN.{length}
-use borrow.Author.Rules.{rules}
-use Rattle.reading.specs.Bars.{closed_part}
 use Rattle.state.specs.Parts.{parts_of}
 use Rattle.state.proofs.LayLaws.{laid_length}
 use Rattle.bars.specs.Bars.{bar_record}
-use Rattle.bars.proofs.MarchLaws.{Marching, march_first, march_turn, march_past, Laying, laying_first, laying_turn, laying_out, laying_at}
+use Rattle.bars.proofs.MarchLaws.{march_first, march_turn, march_past, laying_first, laying_turn, laying_out, laying_at}
 use Rattle.bars.proofs.close.Goals as goal
 
 pub loop-p-init : goal.loop-p-init

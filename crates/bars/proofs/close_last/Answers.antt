@@ -1,6 +1,5 @@
 -- The last closing, where a note came since the one before.
 use Rattle.bars.proofs.EndLaws.{last_closed, last_same}
-use borrow.Author.Rules.{rules}
 use Rattle.bars.proofs.close_last.Goals as goal
 
 pub returns-then-any_noted : goal.returns-then-any_noted

@@ -10,7 +10,6 @@ use Rattle.state.specs.Parts.{part_of}
 use Rattle.state.specs.Lay.{laid, behind}
 use Rattle.bars.specs.Bars.{with_first, renewed}
 use Rattle.bars.proofs.CloseLaws.{closed_part_lem}
-use borrow.Author.Rules.{rules}
 use Rattle.bars.proofs.close_part.Goals as goal
 
 pub returns : goal.returns

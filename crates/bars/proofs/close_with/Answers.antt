@@ -4,7 +4,6 @@ use Rattle.state.specs.View.{told}
 use Rattle.state.specs.declared.Step.TheVariants.{Goes}
 use Rattle.state.specs.declared.Tally.{Tally}
 use Rattle.bars.proofs.CloseLaws.{close_told, same_told, left_told}
-use borrow.Author.Rules.{rules}
 use Rattle.bars.proofs.close_with.Goals as goal
 
 pub returns-then-any_noted : goal.returns-then-any_noted

@@ -1,9 +1,6 @@
 -- What the cells and tokens from here on decide, all decide.
-use Prim.Native.Nat.{◌-◌}
 use native.Mathlib.Omega.{arith}
-use lib.ListN.{length}
-use borrow.Author.Rules.{rules}
-use Rattle.bars.proofs.DecidingLaws.{Deciding, deciding_first, deciding_empty, line_past, row_past, deciding_found, deciding_turn}
+use Rattle.bars.proofs.DecidingLaws.{deciding_first, deciding_empty, line_past, row_past, deciding_found, deciding_turn}
 use Rattle.lines.proofs.PieceLaws.{end_low}
 use Rattle.bars.proofs.deciding.Goals as goal
 
@@ -19,14 +16,14 @@ returns-then-line-from c = line_past c.loop-i.invariant c.if-line-from.true
 pub overflow_sub-result : goal.overflow_sub-result
 overflow_sub-result c = let e = end_low _ _ _ c.if-line-from.false c.token_end-end.ensures in omega arith
 
-pub returns-then-row-i-ge8 : goal.returns-then-row-i-ge8
-returns-then-row-i-ge8 c = deciding_found c.loop-i.invariant c.loop-i-test.true c.if-line-from.false c.token_end-end.ensures c.if-row-i-ge8.true
+pub returns-then-kern : goal.returns-then-kern
+returns-then-kern c = deciding_found c.loop-i.invariant c.loop-i-test.true c.if-line-from.false c.token_end-end.ensures c.if-kern.true
 
 pub overflow_add-from : goal.overflow_add-from
 overflow_add-from c = let e = end_low _ _ _ c.if-line-from.false c.token_end-end.ensures in omega arith
 
 pub loop-i-preserved : goal.loop-i-preserved
-loop-i-preserved c = deciding_turn c.loop-i.invariant c.loop-i-test.true c.if-line-from.false c.token_end-end.ensures c.if-row-i-ge8.false
+loop-i-preserved c = deciding_turn c.loop-i.invariant c.loop-i-test.true c.if-line-from.false c.token_end-end.ensures c.if-kern.false
 
 pub returns : goal.returns
 returns c = row_past c.loop-i.invariant c.loop-i-test.false

@@ -6,7 +6,6 @@ use Rattle.reading.specs.State.{Part}
 use Rattle.state.specs.Parts.{part_of}
 use Rattle.bars.specs.Bars.{end_with}
 use Rattle.bars.proofs.EndLaws.{end_last, end_none}
-use borrow.Author.Rules.{rules}
 use Rattle.bars.proofs.end_of.Goals as goal
 
 pub returns-then-count-eq0 : goal.returns-then-count-eq0

@@ -1,7 +1,6 @@
 -- END from a part's cells.
 use mathlib.Core.Path.{refl}
 use Rattle.state.specs.Parts.{part_of}
-use borrow.Author.Rules.{rules}
 use Rattle.bars.proofs.end_with.Goals as goal
 
 pub returns : goal.returns

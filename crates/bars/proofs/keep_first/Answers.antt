@@ -1,7 +1,6 @@
 -- Bar 1 as it was closed is cells 23 to 34.
 use native.Mathlib.Omega.{arith}
 use lib.ListN.{length-set}
-use borrow.Author.Rules.{rules}
 use Rattle.bars.proofs.CellLaws.{first_set_lem}
 use Rattle.bars.proofs.keep_first.Goals as goal
 

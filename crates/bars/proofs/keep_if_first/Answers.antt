@@ -1,6 +1,5 @@
 -- Only bar 1 is kept.
 use borrow.Author.Tests.{eq-eqb, ne_eqb}
-use borrow.Author.Rules.{rules}
 use Rattle.bars.proofs.keep_if_first.Goals as goal
 
 pub returns-then-number-eq1 : goal.returns-then-number-eq1

@@ -2,9 +2,7 @@
 use mathlib.Core.Path.{◌≡◌, refl, sym, ◌∙◌}
 use Prim.Native.Nat.{◌+◌, ◌*◌, ◌-◌}
 use native.Mathlib.Omega.{arith}
-use borrow.Author.Rules.{rules}
-use Rattle.reading.specs.Bars.{left_anew}
-use Rattle.bars.proofs.MarchLaws.{Marching, march_first, march_turn, march_past}
+use Rattle.bars.proofs.MarchLaws.{march_first, march_turn, march_past}
 use Rattle.bars.proofs.keep_left.Goals as goal
 
 pub loop-p-init : goal.loop-p-init

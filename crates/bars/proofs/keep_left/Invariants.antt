@@ -1,10 +1,7 @@
 -- The parts before p have their left barline.
-use mathlib.Core.Path.{◌≡◌, refl, sym, ◌∙◌}
-use Prim.Native.Nat.{◌+◌, ◌*◌, ◌-◌}
-use native.Mathlib.Omega.{arith}
-use borrow.Author.Rules.{rules}
+use Prim.Native.Nat.{◌-◌}
 use Rattle.reading.specs.Bars.{left_anew}
-use Rattle.bars.proofs.MarchLaws.{Marching, march_first, march_turn, march_past}
+use Rattle.bars.proofs.MarchLaws.{Marching}
 use Rattle.bars.proofs.keep_left.Given as goal
 
 abbrev pub invariant-loop-p : goal.invariant-loop-p

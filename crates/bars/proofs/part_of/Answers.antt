@@ -4,7 +4,6 @@ use Prim.Native.Nat.{ℕ, ◌%◌}
 use lib.ListN.{get_or}
 use Rattle.sheet.specs.Record.{PART}
 use Rattle.state.specs.Parts.{part_of}
-use borrow.Author.Rules.{rules}
 use Rattle.bars.proofs.part_of.Goals as goal
 
 pub returns : goal.returns

@@ -1,7 +1,6 @@
 -- The barlines of the deciding token close.
 use mathlib.Core.Path.{◌∙◌}
 use Rattle.bars.proofs.CloseLaws.{read_told}
-use borrow.Author.Rules.{rules}
 use Rattle.bars.proofs.read_bar.Goals as goal
 
 pub returns : goal.returns

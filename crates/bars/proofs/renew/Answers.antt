@@ -1,7 +1,6 @@
 -- The next bar is all unset but its part and its left barline.
 use native.Mathlib.Omega.{arith}
 use lib.ListN.{length-set}
-use borrow.Author.Rules.{rules}
 use Rattle.bars.proofs.CellLaws.{renewed_set_lem}
 use Rattle.bars.proofs.renew.Goals as goal
 

@@ -1,7 +1,6 @@
 -- The left barline is cell 13.
 use native.Mathlib.Omega.{arith}
 use Rattle.bars.proofs.CellLaws.{left_set}
-use borrow.Author.Rules.{rules}
 use Rattle.bars.proofs.set_left.Goals as goal
 
 pub returns : goal.returns

@@ -4,12 +4,11 @@ use Prim.Native.Nat.{◌+◌, ◌*◌, ◌-◌}
 use native.Mathlib.Omega.{arith}
 use mathlib.Core.List.{map, reverse}
 use lib.ListN.{length}
-use borrow.Author.Rules.{rules}
 use Rattle.sheet.specs.Record.{PART}
 use Rattle.reading.specs.Text.{part_record}
 use Rattle.state.specs.Parts.{parts_of}
 use Rattle.state.proofs.LayLaws.{laid_length}
-use Rattle.bars.proofs.EndLaws.{Falling, fall_first, fall_turn, fall_out, fall_at}
+use Rattle.bars.proofs.EndLaws.{fall_first, fall_turn, fall_out, fall_at}
 use Rattle.bars.proofs.write_parts.Goals as goal
 
 pub loop-p-init : goal.loop-p-init

@@ -14,11 +14,11 @@ free_voice-voice-requires c = c.loop-i.invariant.kept
 pub put-held-requires : goal.put-held-requires
 put-held-requires c = c.loop-i.invariant.kept
 
-pub returns-then-voice-eq4 : goal.returns-then-voice-eq4
-returns-then-voice-eq4 c = branching_done c.loop-i.invariant c.loop-i-test.true c.token_at-token.ensures c.is_branch.ensures _ (c.if-not-is_branch.false) c.free_voice-voice.ensures c.put-held.ensures c.if-voice-eq4.true
+pub returns-then-none : goal.returns-then-none
+returns-then-none c = branching_done c.loop-i.invariant c.loop-i-test.true c.token_at-token.ensures c.is_branch.ensures _ (c.if-not-is_branch.false) c.free_voice-voice.ensures c.put-held.ensures c.if-none.true
 
 pub loop-i-preserved : goal.loop-i-preserved
-loop-i-preserved c = branching_turn c.loop-i.invariant c.loop-i-test.true c.token_at-token.ensures c.is_branch.ensures _ (c.if-not-is_branch.false) c.free_voice-voice.ensures c.put-held.ensures c.if-voice-eq4.false
+loop-i-preserved c = branching_turn c.loop-i.invariant c.loop-i-test.true c.token_at-token.ensures c.is_branch.ensures _ (c.if-not-is_branch.false) c.free_voice-voice.ensures c.put-held.ensures c.if-none.false
 
 pub returns : goal.returns
 returns c = branching_past c.loop-i.invariant c.loop-i-test.false

@@ -29,8 +29,8 @@ loop-from-smaller-then-not-is_kern c = let e = end_low _ _ _ c.loop-from-test.tr
 pub loop-from-preserved-then-not-is_kern : goal.loop-from-preserved-then-not-is_kern
 loop-from-preserved-then-not-is_kern c = counting_other c.loop-from.invariant c.loop-from-test.true c.token_end-end.ensures c.is_kern.ensures (c.if-not-is_kern.true)
 
-pub returns-then-left-eq0 : goal.returns-then-left-eq0
-returns-then-left-eq0 c = counting_done c.loop-from.invariant c.loop-from-test.true c.token_end-end.ensures c.is_kern.ensures (c.if-not-is_kern.false) c.if-left-eq0.true
+pub returns-then-here : goal.returns-then-here
+returns-then-here c = counting_done c.loop-from.invariant c.loop-from-test.true c.token_end-end.ensures c.is_kern.ensures (c.if-not-is_kern.false) c.if-here.true
 
 pub overflow_add-from-in-loop-from : goal.overflow_add-from-in-loop-from
 overflow_add-from-in-loop-from c = let e = end_low _ _ _ c.loop-from-test.true c.token_end-end.ensures in omega arith
@@ -39,7 +39,7 @@ pub loop-from-smaller : goal.loop-from-smaller
 loop-from-smaller c = let e = end_low _ _ _ c.loop-from-test.true c.token_end-end.ensures in omega arith
 
 pub loop-from-preserved : goal.loop-from-preserved
-loop-from-preserved c = counting_turn c.loop-from.invariant c.loop-from-test.true c.token_end-end.ensures c.is_kern.ensures (c.if-not-is_kern.false) c.if-left-eq0.false
+loop-from-preserved c = counting_turn c.loop-from.invariant c.loop-from-test.true c.token_end-end.ensures c.is_kern.ensures (c.if-not-is_kern.false) c.if-here.false
 
 pub returns : goal.returns
 returns c = counting_past c.loop-from.invariant c.loop-from-test.false

@@ -1,6 +1,5 @@
 -- The answers by the row's step.
 use mathlib.Core.Path.{refl, ap}
-use borrow.Author.Rules.{rules}
 use Rattle.state.specs.declared.Step.TheVariants.{Goes}
 use Rattle.stars.proofs.StarLaws.{answer_as}
 use Rattle.stars.proofs.answer.Goals as goal

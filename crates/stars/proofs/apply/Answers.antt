@@ -1,5 +1,4 @@
 -- The part changed, the first tempo and the notice are what is applied.
-use borrow.Author.Rules.{rules}
 use Rattle.stars.proofs.ApplyLaws.{apply_comes}
 use Rattle.stars.proofs.apply.Goals as goal
 

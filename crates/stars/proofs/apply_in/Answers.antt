@@ -1,5 +1,4 @@
 -- Only a line has a part; its cell tells which.
-use borrow.Author.Rules.{rules}
 use Rattle.stars.specs.Columns.{token_of}
 use Rattle.stars.proofs.ApplyLaws.{in_outside, in_branch, in_line, in_part}
 use Rattle.stars.proofs.apply_in.Goals as goal

@@ -2,7 +2,6 @@
 use mathlib.Core.Path.{sym}
 use native.Mathlib.Omega.{arith}
 use lib.Seq.{length-take-le}
-use borrow.Author.Rules.{rules}
 use Rattle.stars.proofs.columns_of.Goals as goal
 
 pub slice_bounds-read_columns-end : goal.slice_bounds-read_columns-end

@@ -1,6 +1,5 @@
 -- The piece at the index, where one is wanted and there is one.
 use native.Mathlib.Omega.{arith}
-use borrow.Author.Rules.{rules}
 use Rattle.lines.proofs.PieceLaws.{piece_at_lem}
 use Rattle.stars.proofs.PairLaws.{none_at, past_at, exchange_here}
 use Rattle.stars.proofs.exchange_at.Goals as goal

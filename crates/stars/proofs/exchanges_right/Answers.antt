@@ -1,6 +1,5 @@
 -- Both are `*x`, and the first doesn't exchange with the one to its left.
 use native.Mathlib.Omega.{arith}
-use borrow.Author.Rules.{rules}
 use Rattle.slices.specs.Split.{pieces}
 use Rattle.spines.specs.Tokens.{path_tokens}
 use Rattle.lines.proofs.PieceLaws.{piece_at_lem}

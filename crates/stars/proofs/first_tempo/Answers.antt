@@ -1,6 +1,5 @@
 -- Only a tempo sets it.
 use mathlib.Core.Path.{refl}
-use borrow.Author.Rules.{rules}
 use Rattle.stars.proofs.ApplyLaws.{tempo_as}
 use Rattle.stars.proofs.first_tempo.Goals as goal
 

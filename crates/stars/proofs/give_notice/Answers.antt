@@ -1,6 +1,5 @@
 -- Only a notice is kept.
 use mathlib.Core.Path.{refl}
-use borrow.Author.Rules.{rules}
 use Rattle.stars.proofs.ApplyLaws.{no_notice, a_notice}
 use Rattle.stars.proofs.give_notice.Goals as goal
 

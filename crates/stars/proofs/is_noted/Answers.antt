@@ -1,5 +1,4 @@
 -- Cell 10 of the part.
-use borrow.Author.Rules.{rules}
 use Rattle.stars.proofs.ApplyLaws.{noted_is}
 use Rattle.stars.proofs.is_noted.Goals as goal
 

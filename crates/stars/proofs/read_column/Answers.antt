@@ -1,6 +1,5 @@
 -- By the path token: nothing, a notice, or an interpretation.
 use lib.ListN.{length}
-use borrow.Author.Rules.{rules}
 use Rattle.sheet.specs.Record.{span_of}
 use Rattle.spines.specs.Cells.{spine_of}
 use Rattle.stars.specs.Columns.{token_of}

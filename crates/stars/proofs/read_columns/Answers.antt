@@ -1,10 +1,7 @@
 -- What all columns come to is what those left come to from here on.
-use Prim.Native.Nat.{◌-◌}
 use native.Mathlib.Omega.{arith}
-use lib.ListN.{length}
-use borrow.Author.Rules.{rules}
 use Rattle.lines.proofs.PieceLaws.{piece_at_lem}
-use Rattle.stars.proofs.LoopLaws.{Loop, loop_first, loop_fit, loop_turn, line_past, row_past}
+use Rattle.stars.proofs.LoopLaws.{loop_first, loop_fit, loop_turn, line_past, row_past}
 use Rattle.stars.proofs.read_columns.Goals as goal
 
 pub loop-i-init : goal.loop-i-init

@@ -1,5 +1,4 @@
 -- The columns' result, with the row that has stepped.
-use borrow.Author.Rules.{rules}
 use Rattle.stars.proofs.StarLaws.{star_told}
 use Rattle.stars.proofs.read_star.Goals as goal
 
