@@ -38,7 +38,8 @@ fn without_plus(s: &[u8]) -> &[u8]
     if s.len() == 0 {
         return s;
     }
-    if s[0] == b'+' {
+    let plus = s[0] == b'+';
+    if plus {
         return crate::tail(s, 1);
     }
     s
