@@ -89,7 +89,8 @@ pub fn row_of(number: u8) -> Row
     ensures { result ≡ row_of number }
 {
     let n = number as usize;
-    if n < 22 {
+    let known = n < 22;
+    if known {
         return ROWS[n];
     }
     Row(0, 0, 0)

@@ -4,9 +4,9 @@ use Rattle.notice.specs.Table.{table, rows_from}
 use Rattle.notice.proofs.TableLaws.{no_row}
 use Rattle.notice.proofs.row_of.Goals as goal
 
-pub returns-then-n-lt22 : goal.returns-then-n-lt22
+pub returns-then-known : goal.returns-then-known
 unfolding table rows_from
-returns-then-n-lt22 c = refl
+returns-then-known c = refl
 
 pub returns : goal.returns
-returns c = no_row c.args.number c.if-n-lt22.false
+returns c = no_row c.args.number c.if-known.false
