@@ -42,7 +42,8 @@ pub fn part_name<'a>(
 ) -> &'a [u8]
     ensures { result.now ≡ name_of text.now fallback.now given at len part }
 {
-    if given {
+    let named = given;
+    if named {
         return slices::piece(text, at as usize, len as usize);
     }
     let p = part as usize;
