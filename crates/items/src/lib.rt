@@ -119,7 +119,8 @@ fn item_of(run: &[u8]) -> Item
             count: run.len(),
         };
     }
-    if b == b' ' {
+    let blank = b == b' ';
+    if blank {
         return Item::Blank;
     }
     Item::Mark(b)

@@ -11,8 +11,8 @@ returns-then-within c = item_digits _ c.if-run-eq0.false c.within.ensures c.if-w
 pub returns-then-is_letter : goal.returns-then-is_letter
 returns-then-is_letter c = item_letters _ c.if-run-eq0.false c.within.ensures c.if-within.false c.is_letter.ensures c.if-is_letter.true
 
-pub returns-then-b-eq32 : goal.returns-then-b-eq32
-returns-then-b-eq32 c = item_blank _ c.if-run-eq0.false c.within.ensures c.if-within.false c.is_letter.ensures c.if-is_letter.false c.if-b-eq32.true
+pub returns-then-blank : goal.returns-then-blank
+returns-then-blank c = item_blank _ c.if-run-eq0.false c.within.ensures c.if-within.false c.is_letter.ensures c.if-is_letter.false c.if-blank.true
 
 pub returns : goal.returns
-returns c = item_mark _ c.if-run-eq0.false c.within.ensures c.if-within.false c.is_letter.ensures c.if-is_letter.false c.if-b-eq32.false
+returns c = item_mark _ c.if-run-eq0.false c.within.ensures c.if-within.false c.is_letter.ensures c.if-is_letter.false c.if-blank.false
