@@ -75,7 +75,8 @@ fn character(s: &[u8], i: usize) -> Turn
 fn ink(b: u8) -> bool
     ensures { result ≡ true → (32 < b) × (b < 128) }
 {
-    if b <= 32 {
+    let low = b <= 32;
+    if low {
         return false;
     }
     b < 128

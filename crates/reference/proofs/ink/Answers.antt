@@ -2,5 +2,5 @@
 use mathlib.Core.Bool.{false≢true}
 use Rattle.reference.proofs.ink.Goals as goal
 
-pub returns-then-b-le32 : goal.returns-then-b-le32
-returns-then-b-le32 c = λ t. absurd (false≢true t)
+pub returns-then-low : goal.returns-then-low
+returns-then-low c = λ t. absurd (false≢true t)
