@@ -167,7 +167,8 @@ pub fn repair_record(line: &[u8], active: usize) -> Repaired
         if ordinary(line) {
             return Repaired::Even(Repair::Stars);
         }
-        if n < 2 {
+        let single = n < 2;
+        if single {
             return Repaired::Uneven(n);
         }
         if identical_bars(line) {

@@ -19,8 +19,8 @@ returns-then-active-n c = cut_even _ _ (omega arith) (ap (each is_empty) (sym c.
 pub returns-then-ordinary : goal.returns-then-ordinary
 returns-then-ordinary c = filled_stars _ _ (omega arith) (sym c.ordinary.ensures ∙ c.if-ordinary.true)
 
-pub returns-then-n-lt2 : goal.returns-then-n-lt2
-returns-then-n-lt2 c = ap Uneven c.token_count-n.ensures.0 ∙ few_one _ _ (omega arith) (sym c.ordinary.ensures ∙ c.if-ordinary.false) (omega arith)
+pub returns-then-single : goal.returns-then-single
+returns-then-single c = ap Uneven c.token_count-n.ensures.0 ∙ few_one _ _ (omega arith) (sym c.ordinary.ensures ∙ c.if-ordinary.false) (omega arith)
 
 pub returns-then-identical_bars : goal.returns-then-identical_bars
 returns-then-identical_bars c = filled_bars_lem _ _ (omega arith) (sym c.ordinary.ensures ∙ c.if-ordinary.false) (omega arith) (sym c.identical_bars.ensures ∙ c.if-identical_bars.true)
