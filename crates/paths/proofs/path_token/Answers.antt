@@ -1,6 +1,6 @@
 -- `path_token` is `path_token`: two bytes, of which the first is `*` and the second decides.
-use borrow.Author.Tests.{ne_eqb}
-use Rattle.paths.proofs.TokenLaws.{token_long, token_starred, token_other}
+use native.Mathlib.Omega.{arith}
+use Rattle.paths.proofs.TokenLaws.{token_long, token_starred, token_rest, token_other}
 use Rattle.paths.proofs.path_token.Goals as goal
 
 pub returns-then-token-ne2 : goal.returns-then-token-ne2
@@ -25,11 +25,4 @@ pub returns-in-43 : goal.returns-in-43
 returns-in-43 c = rw (← token_starred _ c.if-token-ne2.false c.if-token-ne42.false, c.in-43.is)
 
 pub returns-in_default : goal.returns-in_default
-returns-in_default c = rw (
-  ← token_starred _ c.if-token-ne2.false c.if-token-ne42.false,
-  ne_eqb _ _ c.before.in_default.in_default-own.rest.0.0.0.0.1,
-  ne_eqb _ _ c.before.in_default.in_default-own.rest.0.0.0.1,
-  ne_eqb _ _ c.before.in_default.in_default-own.rest.0.0.1,
-  ne_eqb _ _ c.before.in_default.in_default-own.rest.0.1,
-  ne_eqb _ _ c.before.in_default.in_default-own.rest.1,
-)
+returns-in_default c = token_rest _ c.if-token-ne2.false c.if-token-ne42.false (omega arith) (omega arith) (omega arith) (omega arith) (omega arith)
