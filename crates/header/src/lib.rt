@@ -285,7 +285,8 @@ pub fn read_header(
 {
     let exclusive = all_exclusive(line);
     let count = lines::token_count(line);
-    if !exclusive {
+    let other = !exclusive;
+    if other {
         return Step::Refused {
             number: 3,
             line: number as usize,

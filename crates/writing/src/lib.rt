@@ -205,7 +205,8 @@ pub fn keep(out: &mut [u8], tally: Tally, notice: Notice) -> Tally
     ensures { (out.new ≡ laid out.old tally.at (kept_records tally notice [])) × (result ≡ after_kept tally notice []) }
 {
     let kept = tally.notices;
-    if kept < 1024 {
+    let fits = kept < 1024;
+    if fits {
         let at = write_notice(out, tally.at, notice);
         return counted(tally, at);
     }
