@@ -103,7 +103,8 @@ fn offer_digits(token: &[u8]) -> usize
     let end = next.end;
     match item {
         Item::Digits(v) => {
-            if end == token.len() {
+            let whole = end == token.len();
+            if whole {
                 return 0;
             }
             return if_value(v, end);

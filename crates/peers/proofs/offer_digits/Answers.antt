@@ -6,11 +6,11 @@ use Rattle.peers.proofs.offer_digits.Goals as goal
 pub returns-then-forbids : goal.returns-then-forbids
 returns-then-forbids c = offer_forbids _ c.forbids.ensures c.if-forbids.true
 
-pub returns-then-end-token : goal.returns-then-end-token
-returns-then-end-token c = offer_whole _ c.forbids.ensures c.if-forbids.false (digits_lead _ c.next_item-next.ensures c.in-Digits.is) c.if-end-token.true
+pub returns-then-whole : goal.returns-then-whole
+returns-then-whole c = offer_whole _ c.forbids.ensures c.if-forbids.false (digits_lead _ c.next_item-next.ensures c.in-Digits.is) c.if-whole.true
 
 pub returns-in-Digits : goal.returns-in-Digits
-returns-in-Digits c = offer_value _ c.forbids.ensures c.if-forbids.false (digits_lead _ c.next_item-next.ensures c.in-Digits.is) c.if-end-token.false c.if_value.ensures
+returns-in-Digits c = offer_value _ c.forbids.ensures c.if-forbids.false (digits_lead _ c.next_item-next.ensures c.in-Digits.is) c.if-whole.false c.if_value.ensures
 
 pub returns-in-Letters : goal.returns-in-Letters
 returns-in-Letters c = offer_none _ (no_lead _ c.next_item-next.ensures (ap is_digits c.in-Letters.is))
