@@ -102,7 +102,8 @@ fn mark(cells: &[u16], masks: &mut [u8])
         let c = cells[i];
         i += 1;
         let v = voice_of(c);
-        if v < 4 {
+        let line = v < 4;
+        if line {
             let q = place(c);
             let held = masks[q];
             masks[q] = with_voice(held, v);

@@ -9,11 +9,11 @@ loop-i-init c = marking_first c.requires.1
 pub bounds-masks-q : goal.bounds-masks-q
 bounds-masks-q c = omega (arith, c.loop-i.invariant, c.place-q.ensures, c.requires)
 
-pub bounds-masks-q-then-v-lt4 : goal.bounds-masks-q-then-v-lt4
-bounds-masks-q-then-v-lt4 c = omega (arith, c.loop-i.invariant, c.place-q.ensures, c.requires)
+pub bounds-masks-q-then-line : goal.bounds-masks-q-then-line
+bounds-masks-q-then-line c = omega (arith, c.loop-i.invariant, c.place-q.ensures, c.requires)
 
-pub loop-i-preserved-then-v-lt4 : goal.loop-i-preserved-then-v-lt4
-loop-i-preserved-then-v-lt4 c = marking_line c.loop-i.invariant c.loop-i-test.true c.voice_of-v.ensures c.if-v-lt4.true c.place-q.ensures.0 (omega (arith, c.place-q.ensures, c.requires)) c.with_voice.ensures
+pub loop-i-preserved-then-line : goal.loop-i-preserved-then-line
+loop-i-preserved-then-line c = marking_line c.loop-i.invariant c.loop-i-test.true c.voice_of-v.ensures (omega arith) c.place-q.ensures.0 (omega (arith, c.place-q.ensures, c.requires)) c.with_voice.ensures
 
 pub loop-i-preserved : goal.loop-i-preserved
 loop-i-preserved c = marking_pass c.loop-i.invariant c.loop-i-test.true (omega (arith, c.voice_of-v.ensures))
