@@ -206,7 +206,8 @@ fn add_note(
     requires { Sited token.now parts.old spot tally × ((n.pitches ≡ length (note_pitches token.now)) × (n.articulations ≡ length (articulations_of (items token.now)))) }
     ensures { ((cells : List ℕ) → told result cells parts.new out.new ≡ landed (add_note spot.part spot.voice spot.line spot.column (token_at spot token.now) n (state_of cells parts.old tally)) out.old tally.at) × Kept tally result }
 {
-    if tally.notes < 100000 {
+    let room = tally.notes < 100000;
+    if room {
         let t = notify_inferred(token, n.inferred, spot, tally, out);
         let letters = notation::beam::beam_letters(token);
         let beam = sound_part(
