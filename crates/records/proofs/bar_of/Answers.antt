@@ -1,6 +1,5 @@
 use mathlib.Core.Path.{sym}
 use Rattle.records.proofs.KindLaws.{row_length, bar_told}
-use borrow.Author.Rules.{rules}
 use Rattle.records.proofs.bar_of.Goals as goal
 
 pub slice_bounds-read_bar-end : goal.slice_bounds-read_bar-end

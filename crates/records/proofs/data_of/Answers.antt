@@ -1,6 +1,5 @@
 use mathlib.Core.Path.{sym}
 use Rattle.records.proofs.KindLaws.{row_length, data_told}
-use borrow.Author.Rules.{rules}
 use Rattle.records.proofs.data_of.Goals as goal
 
 pub slice_bounds-read_data-end : goal.slice_bounds-read_data-end

@@ -1,5 +1,4 @@
 use mathlib.Core.Path.{refl}
-use borrow.Author.Rules.{rules}
 use Rattle.records.proofs.OutcomeLaws.{no_repair_told, repair_told}
 use Rattle.records.proofs.notice_repair.Goals as goal
 

@@ -1,6 +1,5 @@
 use lib.ListN.{take}
 use Rattle.records.proofs.RecordLaws.{behind_header, at_header}
-use borrow.Author.Rules.{rules}
 use Rattle.records.proofs.on_record.Goals as goal
 
 pub returns-then-begun : goal.returns-then-begun

@@ -1,6 +1,5 @@
 use mathlib.Core.Path.{sym, ◌∙◌}
 use Rattle.records.proofs.KindLaws.{by_empty, by_reference, by_comment, by_star, by_bar, by_data}
-use borrow.Author.Rules.{rules}
 use Rattle.records.proofs.read_even.Goals as goal
 
 pub bar_of-requires : goal.bar_of-requires

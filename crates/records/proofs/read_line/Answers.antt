@@ -6,7 +6,6 @@ use Rattle.state.specs.declared.Step.TheVariants.{Goes}
 use Rattle.state.specs.declared.Tally.{Tally}
 use Rattle.state.specs.View.{told, told_row}
 use Rattle.records.proofs.RecordLaws.{empty_line, comment_line, reference_line, record_line, no_record}
-use borrow.Author.Rules.{rules}
 use Rattle.records.proofs.read_line.Goals as goal
 
 pub returns-then-is_record : goal.returns-then-is_record

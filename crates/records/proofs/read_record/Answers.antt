@@ -1,6 +1,5 @@
 use mathlib.Core.Path.{refl}
 use Rattle.records.proofs.RecordLaws.{here_same, even_same, none_told, uneven_told, mixed_told, even_told}
-use borrow.Author.Rules.{rules}
 use Rattle.records.proofs.read_record.Goals as goal
 
 pub returns-then-active-eq0 : goal.returns-then-active-eq0
