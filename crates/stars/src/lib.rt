@@ -29,7 +29,8 @@ use state::{Step, Tally};
 fn with_first(tally: Tally, bpm: u16) -> Tally
     ensures { result ≡ with_first tally bpm }
 {
-    if tally.tempo == 0 {
+    let first = tally.tempo == 0;
+    if first {
         let title = tally.title;
         let composer = tally.composer;
         let lyricist = tally.lyricist;
