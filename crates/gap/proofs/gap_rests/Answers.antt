@@ -7,7 +7,7 @@ pub overflow_mul-long : goal.overflow_mul-long
 overflow_mul-long c = omega (arith, few_bytes c.args.ticks c.args.divisions c.args.notes c.args.out.now c.room_for-room.ensures c.count_rests.ensures c.in-Rests.is)
 
 pub returns-then-out-long : goal.returns-then-out-long
-returns-then-out-long c = let all = too_short c.args.ticks c.args.divisions c.args.notes c.args.out.now c.room_for-room.ensures c.count_rests.ensures c.in-Rests.is c.if-out-long.true in
+returns-then-out-long c = let all = too_short c.args.ticks c.args.divisions c.args.notes c.args.out.now c.room_for-room.ensures c.count_rests.ensures c.in-Rests.is (omega arith) in
     record { answer = all.0; buffer = all.1.0; numbered = all.1.1.0; filled = all.1.1.1 }
 
 pub write_rests-requires : goal.write_rests-requires
