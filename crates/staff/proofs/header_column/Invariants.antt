@@ -1,0 +1,14 @@
+-- The lines passed are no records.
+use borrow.Author.Rules.{rules}
+use native.Mathlib.Omega.{arith}
+use Prim.Native.Nat.{◌+◌, ◌-◌}
+use lib.ListN.{length}
+use Rattle.reader.proofs.LoopLaws.{inside_of, nearer}
+use Rattle.staff.proofs.WalkLaws.{Heading, heading_first, heading_found, heading_turn, heading_past}
+use Rattle.staff.proofs.header_column.Given as goal
+
+abbrev pub invariant-loop-from : goal.invariant-loop-from
+invariant-loop-from l = Heading l.text l.from
+
+abbrev pub decreases-loop-from : goal.decreases-loop-from
+decreases-loop-from l = length l.text + 1 - l.from
