@@ -1,0 +1,15 @@
+-- `kern_notice_code` meets its contract. Assumes nothing.
+use mathlib.Core.Path.{ap, ◌∙◌}
+use Prim.Native.Nat.{ℕ}
+use native.Mathlib.Omega.{arith}
+use mathlib.Core.List.{List}
+use Rattle.kern_ffi.proofs.WordLaws.{lent}
+use Rattle.notice.specs.Table.{code_in}
+use Rattle.notice.proofs.TableLaws.{listed}
+use borrow.Author.Rules.{rules}
+use Rattle.kern_ffi.proofs.kern_notice_code.Goals as goal
+
+pub returns : goal.returns
+returns c =
+    let l = lent _ (c.code-code.ensures ∙ ap (λ (w : List ℕ). code_in w c.args.number) c.words-words.ensures ∙ (listed c.args.number (omega arith)).code) c.put.ensures in
+    record { length = l.0; buffer = l.1 }
