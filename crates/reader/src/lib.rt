@@ -235,7 +235,8 @@ pub fn read(text: &[u8], out: &mut [u8]) -> Answer
     ensures joined { Question17 text.now }
     ensures traced { OneOrigin text.now }
 {
-    if text.len() > 67108864 {
+    let long = text.len() > 67108864;
+    if long {
         return Answer::Refused {
             number: 1,
             line: 0,
@@ -243,7 +244,8 @@ pub fn read(text: &[u8], out: &mut [u8]) -> Answer
         };
     }
     let good = utf8::utf8_length(text);
-    if good < text.len() {
+    let broken = good < text.len();
+    if broken {
         return Answer::Refused {
             number: 2,
             line: 0,

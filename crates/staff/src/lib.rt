@@ -212,7 +212,8 @@ pub fn read_with_lines(text: &[u8], out: &mut [u8]) -> Explained
             line,
             figure,
         } => {
-            if number == 8 {
+            let full = number == 8;
+            if full {
                 let lines = filling(text, line, figure);
                 return Explained { answer, lines };
             }

@@ -4,9 +4,9 @@ use borrow.Author.Rules.{rules}
 use Rattle.reader.proofs.AnswerLaws.{answers_refused, answers_short, answers_written, too_long, not_utf8_at, utf8_whole, measured_long, told_written, told_refused}
 use Rattle.reader.proofs.read.Goals as goal
 
-pub returns-then-text-gt67108864 : goal.returns-then-text-gt67108864
-returns-then-text-gt67108864 c =
-    let r = answers_refused c.args.text.now c.args.out.now 1 0 _ (too_long c.args.text.now c.if-text-gt67108864.true) in
+pub returns-then-long : goal.returns-then-long
+returns-then-long c =
+    let r = answers_refused c.args.text.now c.args.out.now 1 0 _ (too_long c.args.text.now c.if-long.true) in
     record {
       answer = r.0;
       numbered = r.1.0;
@@ -18,9 +18,9 @@ returns-then-text-gt67108864 c =
       traced = r.1.1.1.1.1.1.1;
     }
 
-pub returns-then-good-text : goal.returns-then-good-text
-returns-then-good-text c =
-    let r = answers_refused c.args.text.now c.args.out.now 2 0 _ (not_utf8_at c.args.text.now c.if-text-gt67108864.false c.if-good-text.true c.utf8_length-good.ensures.0) in
+pub returns-then-broken : goal.returns-then-broken
+returns-then-broken c =
+    let r = answers_refused c.args.text.now c.args.out.now 2 0 _ (not_utf8_at c.args.text.now c.if-long.false c.if-broken.true c.utf8_length-good.ensures.0) in
     record {
       answer = r.0;
       numbered = r.1.0;
@@ -53,7 +53,7 @@ returns-then-out-at c =
     }
 
 pub write_sheet-requires : goal.write_sheet-requires
-write_sheet-requires c = (c.if-text-gt67108864.false, (utf8_whole c.args.text.now c.utf8_length-good.ensures c.if-good-text.false, (told_written c.args.text.now c.measure.result c.measure.ensures c.in-Written.is, c.if-out-at.false)))
+write_sheet-requires c = (c.if-long.false, (utf8_whole c.args.text.now c.utf8_length-good.ensures c.if-broken.false, (told_written c.args.text.now c.measure.result c.measure.ensures c.in-Written.is, c.if-out-at.false)))
 
 pub returns-in-Refused : goal.returns-in-Refused
 returns-in-Refused c =

@@ -6,12 +6,12 @@ use Rattle.staff.proofs.read_with_lines.Goals as goal
 pub filling-lines-requires : goal.filling-lines-requires
 filling-lines-requires c =
     let e = c.read-answer.ensures in
-    within_text c.args.text.now c.args.out.now _ (e.answer, (e.numbered, (e.buffer, (e.played, (e.needed, (e.stopped, (e.joined, e.traced))))))) c.in-Refused.is c.if-number-eq8.true
+    within_text c.args.text.now c.args.out.now _ (e.answer, (e.numbered, (e.buffer, (e.played, (e.needed, (e.stopped, (e.joined, e.traced))))))) c.in-Refused.is c.if-full.true
 
-pub returns-then-number-eq8 : goal.returns-then-number-eq8
-returns-then-number-eq8 c =
+pub returns-then-full : goal.returns-then-full
+returns-then-full c =
     let e = c.read-answer.ensures in
-    let r = explains_8 c.args.text.now c.args.out.now _ (e.answer, (e.numbered, (e.buffer, (e.played, (e.needed, (e.stopped, (e.joined, e.traced))))))) c.in-Refused.is c.if-number-eq8.true c.filling-lines.ensures in
+    let r = explains_8 c.args.text.now c.args.out.now _ (e.answer, (e.numbered, (e.buffer, (e.played, (e.needed, (e.stopped, (e.joined, e.traced))))))) c.in-Refused.is c.if-full.true c.filling-lines.ensures in
     record {
       answer = r.0;
       numbered = r.1.0;
@@ -25,10 +25,10 @@ returns-then-number-eq8 c =
       filled = r.1.1.1.1.1.1.1.1.1;
     }
 
-pub returns-else-number-eq8 : goal.returns-else-number-eq8
-returns-else-number-eq8 c =
+pub returns-else-full : goal.returns-else-full
+returns-else-full c =
     let e = c.read-answer.ensures in
-    let r = explains_other c.args.text.now c.args.out.now _ (e.answer, (e.numbered, (e.buffer, (e.played, (e.needed, (e.stopped, (e.joined, e.traced))))))) c.in-Refused.is c.if-number-eq8.false c.nobody-lines.ensures in
+    let r = explains_other c.args.text.now c.args.out.now _ (e.answer, (e.numbered, (e.buffer, (e.played, (e.needed, (e.stopped, (e.joined, e.traced))))))) c.in-Refused.is c.if-full.false c.nobody-lines.ensures in
     record {
       answer = r.0;
       numbered = r.1.0;
