@@ -6,7 +6,6 @@ use mathlib.Core.List.{List}
 use Rattle.kern_ffi.proofs.WordLaws.{lent}
 use Rattle.notice.specs.Table.{reason_in}
 use Rattle.notice.proofs.TableLaws.{listed}
-use borrow.Author.Rules.{rules}
 use Rattle.kern_ffi.proofs.kern_notice_reason.Goals as goal
 
 pub returns : goal.returns

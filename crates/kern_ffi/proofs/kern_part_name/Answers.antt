@@ -5,7 +5,6 @@ use mathlib.Core.List.{List}
 use Rattle.kern_ffi.proofs.WordLaws.{lent}
 use Rattle.names.specs.Names.{name_of}
 use Rattle.kern_ffi.specs.Answer.{is_given}
-use borrow.Author.Rules.{rules}
 use Rattle.kern_ffi.proofs.kern_part_name.Goals as goal
 
 pub returns : goal.returns

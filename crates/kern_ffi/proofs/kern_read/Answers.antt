@@ -2,7 +2,6 @@
 use Prim.Native.Nat.{ℕ}
 use native.Mathlib.Omega.{arith}
 use Rattle.kern_ffi.proofs.AnswerLaws.{number_small, answers, refused_numbers, accepted_numbers}
-use borrow.Author.Rules.{rules}
 use Rattle.kern_ffi.proofs.kern_read.Goals as goal
 
 pub overflow_cast-result : goal.overflow_cast-result

@@ -1,6 +1,5 @@
 -- `put_three` meets its contract. Assumes nothing.
 use Rattle.kern_ffi.proofs.AnswerLaws.{three_set}
-use borrow.Author.Rules.{rules}
 use Rattle.kern_ffi.proofs.put_three.Goals as goal
 
 pub returns : goal.returns

@@ -1,6 +1,5 @@
 use Prim.Native.Nat.{ℕ}
 use mathlib.Core.List.{List}
-use borrow.Author.Rules.{rules}
 use Rattle.state.specs.View.{state_of}
 use Rattle.reader.proofs.FinishLaws.{not_begun, no_note, some_note}
 use Rattle.reader.proofs.finish_text.Goals as goal

@@ -1,5 +1,4 @@
 use mathlib.Core.Path.{sym, ◌∙◌}
-use borrow.Author.Rules.{rules}
 use Rattle.reader.proofs.AnswerLaws.{read_by_lines, tells}
 use Rattle.reader.proofs.measure.Goals as goal
 

@@ -1,6 +1,5 @@
 use Prim.Native.Nat.{ℕ}
 use native.Mathlib.Omega.{arith}
-use borrow.Author.Rules.{rules}
 use Rattle.reader.proofs.AnswerLaws.{answers_refused, answers_short, answers_written, too_long, not_utf8_at, utf8_whole, measured_long, told_written, told_refused}
 use Rattle.reader.proofs.read.Goals as goal
 

@@ -1,9 +1,7 @@
 use mathlib.Core.Path.{sym, subst, ◌∙◌}
-use Prim.Native.Nat.{◌+◌, ◌-◌}
 use mathlib.Core.Bool.{false}
 use native.Mathlib.Omega.{arith}
-use lib.ListN.{length, take}
-use borrow.Author.Rules.{rules}
+use lib.ListN.{take}
 use Rattle.state.specs.declared.Tally.{Tally}
 use Rattle.reader.proofs.LoopLaws.{Reading, reading_first, reading_past, inside_of, nearer, passed_here, here, refused_here, ends_here, ends_small, goes_here, at_end}
 use Rattle.reader.proofs.read_lines.Goals as goal

@@ -1,11 +1,6 @@
-use mathlib.Core.Path.{sym, subst, ◌∙◌}
 use Prim.Native.Nat.{◌+◌, ◌-◌}
-use mathlib.Core.Bool.{false}
-use native.Mathlib.Omega.{arith}
-use lib.ListN.{length, take}
-use borrow.Author.Rules.{rules}
-use Rattle.state.specs.declared.Tally.{Tally}
-use Rattle.reader.proofs.LoopLaws.{Reading, reading_first, reading_past, inside_of, nearer, passed_here, here, refused_here, ends_here, ends_small, goes_here, at_end}
+use lib.ListN.{length}
+use Rattle.reader.proofs.LoopLaws.{Reading}
 use Rattle.reader.proofs.read_lines.Given as goal
 
 abbrev pub invariant-loop-from : goal.invariant-loop-from

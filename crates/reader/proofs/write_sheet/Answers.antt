@@ -1,4 +1,3 @@
-use borrow.Author.Rules.{rules}
 use Rattle.reader.proofs.AnswerLaws.{sheet_written}
 use Rattle.reader.proofs.write_sheet.Goals as goal
 

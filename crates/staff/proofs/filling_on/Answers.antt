@@ -1,7 +1,6 @@
 -- The row before the line, and the passes over its record.
 use Rattle.reader.proofs.LoopLaws.{inside_of}
 use Rattle.staff.proofs.WalkLaws.{walked_there}
-use borrow.Author.Rules.{rules}
 use Rattle.staff.proofs.filling_on.Goals as goal
 
 pub line_of-line-requires : goal.line_of-line-requires

@@ -1,10 +1,7 @@
 -- The lines passed are no records.
-use borrow.Author.Rules.{rules}
 use native.Mathlib.Omega.{arith}
-use Prim.Native.Nat.{◌+◌, ◌-◌}
-use lib.ListN.{length}
 use Rattle.reader.proofs.LoopLaws.{inside_of, nearer}
-use Rattle.staff.proofs.WalkLaws.{Heading, heading_first, heading_found, heading_turn, heading_past}
+use Rattle.staff.proofs.WalkLaws.{heading_first, heading_found, heading_turn, heading_past}
 use Rattle.staff.proofs.header_column.Goals as goal
 
 pub loop-from-init : goal.loop-from-init

@@ -1,10 +1,7 @@
 -- The lines passed are no records.
-use borrow.Author.Rules.{rules}
-use native.Mathlib.Omega.{arith}
 use Prim.Native.Nat.{◌+◌, ◌-◌}
 use lib.ListN.{length}
-use Rattle.reader.proofs.LoopLaws.{inside_of, nearer}
-use Rattle.staff.proofs.WalkLaws.{Heading, heading_first, heading_found, heading_turn, heading_past}
+use Rattle.staff.proofs.WalkLaws.{Heading}
 use Rattle.staff.proofs.header_column.Given as goal
 
 abbrev pub invariant-loop-from : goal.invariant-loop-from

@@ -1,6 +1,5 @@
 -- The row of a header that is not too wide.
 use Rattle.staff.proofs.WalkLaws.{headed_wide, headed_row}
-use borrow.Author.Rules.{rules}
 use Rattle.staff.proofs.header_row.Goals as goal
 
 pub returns-then-n-gt256 : goal.returns-then-n-gt256

@@ -2,7 +2,6 @@
 use mathlib.Core.Path.{sym}
 use lib.Seq.{length-take-le}
 use native.Mathlib.Omega.{arith}
-use borrow.Author.Rules.{rules}
 use Rattle.staff.proofs.holders_under.Goals as goal
 
 pub slice_bounds-holders_of-end : goal.slice_bounds-holders_of-end

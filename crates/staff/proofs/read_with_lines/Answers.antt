@@ -1,6 +1,5 @@
 -- The reader's promises, and the list by the case that the answer is.
 use Rattle.staff.proofs.FillingLaws.{within_text, explains_8, explains_other, explains_accepted}
-use borrow.Author.Rules.{rules}
 use Rattle.staff.proofs.read_with_lines.Goals as goal
 
 pub filling-lines-requires : goal.filling-lines-requires

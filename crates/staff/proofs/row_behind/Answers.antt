@@ -1,6 +1,5 @@
 -- A star record makes the next row; any other leaves it.
 use Rattle.staff.proofs.WalkLaws.{star_behind}
-use borrow.Author.Rules.{rules}
 use Rattle.staff.proofs.row_behind.Goals as goal
 
 pub returns-in-Empty : goal.returns-in-Empty

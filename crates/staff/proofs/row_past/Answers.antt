@@ -3,7 +3,6 @@ use mathlib.Core.Path.{sym, ◌∙◌}
 use lib.ListN.{take}
 use Rattle.spines.specs.Cells.{row_of}
 use Rattle.staff.proofs.WalkLaws.{past_begun, past_header, past_other}
-use borrow.Author.Rules.{rules}
 use Rattle.staff.proofs.row_past.Goals as goal
 
 pub returns-then-begun : goal.returns-then-begun

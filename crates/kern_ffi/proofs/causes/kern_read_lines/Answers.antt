@@ -7,7 +7,6 @@ use Rattle.slices.specs.Store.{stored}
 use Rattle.holders.specs.declared.Holder.{Holder}
 use Rattle.kern_ffi.specs.Answer.{entry_numbers}
 use Rattle.kern_ffi.proofs.AnswerLaws.{number_small, answers, refused_numbers, accepted_numbers}
-use borrow.Author.Rules.{rules}
 use Rattle.kern_ffi.proofs.causes.kern_read_lines.Goals as goal
 
 pub overflow_cast-result : goal.overflow_cast-result

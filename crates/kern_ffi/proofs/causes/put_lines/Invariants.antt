@@ -1,9 +1,6 @@
 -- The entries so far stand at the start of the array.
 use Prim.Native.Nat.{◌-◌}
-use native.Mathlib.Omega.{arith}
-use lib.ListN.{length-set}
-use borrow.Author.Rules.{rules}
-use Rattle.kern_ffi.proofs.LineLaws.{Laying, laying_first, laying_turn, laying_past}
+use Rattle.kern_ffi.proofs.LineLaws.{Laying}
 use Rattle.kern_ffi.proofs.causes.put_lines.Given as goal
 
 abbrev pub invariant-loop-i : goal.invariant-loop-i

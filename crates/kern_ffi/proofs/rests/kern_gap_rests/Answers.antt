@@ -1,7 +1,6 @@
 -- `kern_gap_rests` meets its contract. Assumes nothing.
 use native.Mathlib.Omega.{arith}
 use Rattle.kern_ffi.proofs.GapLaws.{refused_answer, accepted_answer}
-use borrow.Author.Rules.{rules}
 use Rattle.kern_ffi.proofs.rests.kern_gap_rests.Goals as goal
 
 pub overflow_cast-result : goal.overflow_cast-result
