@@ -1,4 +1,4 @@
--- `utf8Length` measures the longest well-formed part of a text from its start.
+-- `utf8_length` measures the longest well-formed part of a text from its start.
 use mathlib.Core.Path.{◌≡◌, refl, sym, ap, ◌∙◌}
 use mathlib.Core.Bool.{cond}
 use mathlib.Core.List.{List, ◌++◌, append_assoc}

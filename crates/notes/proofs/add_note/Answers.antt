@@ -17,7 +17,7 @@ pub write_note-at-requires : goal.write_note-at-requires
 write_note-at-requires c = (ap (λ (x : NoteWritten). x.pitches) c.note_at-note.ensures ∙ c.requires.1.0, ap (λ (x : NoteWritten). x.articulations) c.note_at-note.ensures ∙ c.requires.1.1)
 
 pub returns-then-room : goal.returns-then-room
-returns-then-room c = (λ cells. note_added cells c.args.parts.now c.sound_part-beam.new.parts c.args.token.now c.args.n c.args.spot c.if-room.true c.notify_inferred-t.ensures c.beam_letters-letters.ensures c.sound_part-beam.ensures.0 c.sound_part-beam.ensures.1 c.note_at-note.ensures c.write_note-at.ensures.0 c.write_note-at.ensures.1 c.with_note.ensures, note_same c.notify_inferred-t.ensures.same c.with_note.ensures)
+returns-then-room c = (λ cells. note_added cells c.args.parts.now c.sound_part-beam.new.parts c.args.token.now c.args.n c.args.spot (omega arith) c.notify_inferred-t.ensures c.beam_letters-letters.ensures c.sound_part-beam.ensures.0 c.sound_part-beam.ensures.1 c.note_at-note.ensures c.write_note-at.ensures.0 c.write_note-at.ensures.1 c.with_note.ensures, note_same c.notify_inferred-t.ensures.same c.with_note.ensures)
 
 pub returns : goal.returns
 returns c = (λ cells. note_refused c.args.spot.part c.args.spot.voice c.args.spot.line c.args.spot.column c.args.spot.at c.args.token.now c.args.n (state_of cells c.args.parts.now c.args.tally) c.args.out.now c.args.tally.at c.if-room.false, tt)

@@ -1,4 +1,4 @@
--- `path_token` is `path_token`: two bytes, of which the first is `*` and the second decides.
+-- The function is the definition of its name: two bytes, of which the first is `*` and the second decides.
 use native.Mathlib.Omega.{arith}
 use Rattle.paths.proofs.TokenLaws.{token_long, token_starred, token_rest, token_other}
 use Rattle.paths.proofs.path_token.Goals as goal

@@ -16,7 +16,9 @@ pub overflow_sub-end : goal.overflow_sub-end
 overflow_sub-end c = omega (arith, c.past_line-past.ensures.0)
 
 pub line_of-line-requires : goal.line_of-line-requires
-line_of-line-requires c = inside_of c.args.text.now c.loop-from-test.true c.past_line-past.ensures.0
+line_of-line-requires c =
+    let i = inside_of c.args.text.now c.loop-from-test.true c.past_line-past.ensures.0 in
+    (omega (arith, i.0, i.1), omega (arith, i.0, i.1))
 
 pub loop-from-smaller-then-is_passed : goal.loop-from-smaller-then-is_passed
 loop-from-smaller-then-is_passed c = nearer c.args.text.now c.loop-from-test.true c.past_line-past.ensures.0

@@ -1,9 +1,7 @@
 -- `begins` meets its contract. Assumes nothing.
 use mathlib.Core.Path.{refl, sym}
-use Prim.Native.Nat.{◌-◌}
 use native.Mathlib.Omega.{arith}
-use lib.ListN.{length}
-use Rattle.slices.proofs.CompareLaws.{begins_short, Begins, begins_turn, begins_not, begins_past}
+use Rattle.slices.proofs.CompareLaws.{begins_short, begins_turn, begins_not, begins_past}
 use Rattle.slices.proofs.begins.Goals as goal
 
 pub returns-then-s-p : goal.returns-then-s-p

@@ -1,9 +1,7 @@
 -- `begins` meets its contract. Assumes nothing.
-use mathlib.Core.Path.{refl, sym}
 use Prim.Native.Nat.{◌-◌}
-use native.Mathlib.Omega.{arith}
 use lib.ListN.{length}
-use Rattle.slices.proofs.CompareLaws.{begins_short, Begins, begins_turn, begins_not, begins_past}
+use Rattle.slices.proofs.CompareLaws.{Begins}
 use Rattle.slices.proofs.begins.Given as goal
 
 abbrev pub invariant-loop-i : goal.invariant-loop-i

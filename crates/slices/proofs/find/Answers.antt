@@ -1,8 +1,5 @@
 -- `find` meets its contract. Assumes nothing.
-use Prim.Native.Nat.{◌-◌}
-use native.Mathlib.Omega.{arith}
-use lib.ListN.{length}
-use Rattle.slices.proofs.SearchLaws.{Find, find_first, find_turn, find_done, find_past}
+use Rattle.slices.proofs.SearchLaws.{find_first, find_turn, find_done, find_past}
 use Rattle.slices.proofs.find.Goals as goal
 
 pub loop-i-init : goal.loop-i-init

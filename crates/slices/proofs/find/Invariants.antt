@@ -1,8 +1,7 @@
 -- `find` meets its contract. Assumes nothing.
 use Prim.Native.Nat.{◌-◌}
-use native.Mathlib.Omega.{arith}
 use lib.ListN.{length}
-use Rattle.slices.proofs.SearchLaws.{Find, find_first, find_turn, find_done, find_past}
+use Rattle.slices.proofs.SearchLaws.{Find}
 use Rattle.slices.proofs.find.Given as goal
 
 abbrev pub invariant-loop-i : goal.invariant-loop-i

@@ -1,7 +1,6 @@
 -- `piece` meets its contract. Assumes nothing.
 use native.Mathlib.Nat.{add-sub_cancel_left}
 use Rattle.slices.proofs.PieceLaws.{piece_past, piece_cut}
-use borrow.Author.Rules.{rules}
 use Rattle.slices.proofs.piece.Goals as goal
 
 pub returns-then-s-at : goal.returns-then-s-at

@@ -1,10 +1,10 @@
 -- `put` meets its contract. Assumes nothing.
-use mathlib.Core.Path.{◌≡◌, refl, ap, sym, ◌∙◌}
+use mathlib.Core.Path.{refl, ap, sym, ◌∙◌}
 use mathlib.Core.List.{List}
-use Prim.Native.Nat.{ℕ, ◌-◌, ◌≤◌}
+use Prim.Native.Nat.{ℕ}
 use native.Mathlib.Omega.{arith}
-use lib.ListN.{length, get_or, take, set, length-set}
-use lib.Seq.{sets, take_all}
+use lib.ListN.{get_or, set, length-set}
+use lib.Seq.{take_all}
 use borrow.Author.Rules.{rules}
 use Rattle.slices.proofs.StoreLaws.{copy_more, stored_sets, stored_not}
 use Rattle.slices.proofs.put.Goals as goal

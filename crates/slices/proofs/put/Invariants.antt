@@ -1,12 +1,8 @@
 -- `put` meets its contract. Assumes nothing.
-use mathlib.Core.Path.{◌≡◌, refl, ap, sym, ◌∙◌}
-use mathlib.Core.List.{List}
-use Prim.Native.Nat.{ℕ, ◌-◌, ◌≤◌}
-use native.Mathlib.Omega.{arith}
-use lib.ListN.{length, get_or, take, set, length-set}
-use lib.Seq.{sets, take_all}
-use borrow.Author.Rules.{rules}
-use Rattle.slices.proofs.StoreLaws.{copy_more, stored_sets, stored_not}
+use mathlib.Core.Path.{◌≡◌}
+use Prim.Native.Nat.{◌-◌, ◌≤◌}
+use lib.ListN.{length, take}
+use lib.Seq.{sets}
 use Rattle.slices.proofs.put.Given as goal
 
 abbrev pub invariant-loop-i : goal.invariant-loop-i

@@ -1,7 +1,6 @@
 -- `same` meets its contract. Assumes nothing.
 use mathlib.Core.Path.{sym, ◌∙◌}
 use Rattle.slices.proofs.CompareLaws.{same_short, same_begins}
-use borrow.Author.Rules.{rules}
 use Rattle.slices.proofs.same.Goals as goal
 
 pub returns-then-s-p : goal.returns-then-s-p
