@@ -1,15 +1,15 @@
 -- Comparing byte by byte.
 use mathlib.Core.Path.{◌≡◌, refl, sym, ap, ◌∙◌}
-use Prim.Native.Nat.{ℕ, suc, ◌+◌, ◌≤◌, ◌<◌}
+use Prim.Native.Nat.{ℕ, suc, ◌<◌}
 use native.Mathlib.Nat.{le_of_suc-le-suc, not-suc-le-zero}
-use native.Mathlib.Numerals.{add-one}
-use native.Mathlib.Omega.{arith}
 use mathlib.Core.List.{List, [], ◌∷◌}
 use mathlib.Core.Bool.{Bool, true, false, ◌&&◌}
 use lib.Dec.{eqb}
-use lib.ListN.{length, take, drop, get_or, drop_of_length-le}
-use lib.Seq.{drop-cons}
+use lib.ListN.{length, take}
+use lib.Pointwise.{pointwise}
 use borrow.Author.Tests.{eq-eqb, ne_eqb, eqb-true}
+use mathlib.Core.Logic.{◌⊎◌, inl, inr}
+use Rattle.std.proofs.lemmas.Bool.Decides.{eqb_tells}
 use Rattle.slices.specs.Compare.{begins_with, same_bytes}
 
 and_not : (a : Bool) {b : Bool} → b ≡ false → (a && b) ≡ false
@@ -23,13 +23,27 @@ begins_short [] s h = absurd (not-suc-le-zero h)
 begins_short (x ∷ p) [] h = refl
 begins_short (x ∷ p) (y ∷ s) h = and_not (eqb y x) (begins_short p s (le_of_suc-le-suc h))
 
--- of equal lengths, beginning with is being the same
-pub same_begins : (p s : List ℕ) → length s ≡ length p → same_bytes p s ≡ begins_with p s
-unfolding begins_with same_bytes
-same_begins [] [] e = refl
-same_begins [] (y ∷ s) e = absurd (not-suc-le-zero {n = 0} (omega arith))
-same_begins (x ∷ p) [] e = absurd (not-suc-le-zero {n = 0} (omega arith))
-same_begins (x ∷ p) (y ∷ s) e = ap (λ (b : Bool). eqb y x && b) (same_begins p s (omega arith))
+eqb_turn : (a b : ℕ) → eqb a b ≡ eqb b a
+eqb_turn a b = go (eqb_tells a b)
+  where
+    go : ((eqb a b ≡ true) × (a ≡ b)) ⊎ ((eqb a b ≡ false) × (a ≡ b → ⊥)) → eqb a b ≡ eqb b a
+    go (inl h) = h.0 ∙ sym (eq-eqb b a (sym h.1))
+    go (inr h) = h.0 ∙ sym (ne_eqb b a (λ e. h.1 (sym e)))
+
+-- `starts_with` of a slice is beginning with the bytes
+pub starts_begins : (p s : List ℕ) → pointwise eqb p (take (length p) s) ≡ begins_with p s
+unfolding begins_with
+starts_begins [] s = refl
+starts_begins (x ∷ p) [] = refl
+starts_begins (x ∷ p) (y ∷ s) = rw (eqb_turn x y, starts_begins p s)
+
+-- `==` of slices is being the same
+pub eq_same : (p s : List ℕ) → pointwise eqb s p ≡ same_bytes p s
+unfolding same_bytes
+eq_same [] [] = refl
+eq_same [] (y ∷ s) = refl
+eq_same (x ∷ p) [] = refl
+eq_same (x ∷ p) (y ∷ s) = ap (λ (b : Bool). eqb y x && b) (eq_same p s)
 
 pub same_short : (p s : List ℕ) → (length s ≡ length p → ⊥) → same_bytes p s ≡ false
 unfolding same_bytes
@@ -37,28 +51,6 @@ same_short [] [] e = absurd (e refl)
 same_short [] (y ∷ s) e = refl
 same_short (x ∷ p) [] e = refl
 same_short (x ∷ p) (y ∷ s) e = and_not (eqb y x) (same_short p s (λ q. e (ap suc q)))
-
--- the loop of `begins`: what is left from i on decides
-pub record Begins (p s : List ℕ) (i : ℕ) : Type 0 where
-  pub high : i ≤ length p
-  pub same : begins_with p s ≡ begins_with (drop i p) (drop i s)
-
-module _ {p s : List ℕ} {i : ℕ} (inv : Begins p s i) (short : length p ≤ length s) where
-  at_index : i < length p → begins_with p s ≡ (eqb (get_or s i 0) (get_or p i 0) && begins_with (drop (i + 1) p) (drop (i + 1) s))
-  unfolding begins_with
-  at_index h =
-      let hs : i < length s = omega arith in
-      inv.same ∙ rw (drop-cons p i 0 h, drop-cons s i 0 hs, add-one)
-
-  pub begins_turn : i < length p → get_or s i 0 ≡ get_or p i 0 → Begins p s (i + 1)
-  begins_turn h e = record { high = omega arith; same = at_index h ∙ rw (eq-eqb _ _ e) }
-
-  pub begins_not : i < length p → (get_or s i 0 ≡ get_or p i 0 → ⊥) → false ≡ begins_with p s
-  begins_not h e = sym (at_index h ∙ rw (ne_eqb _ _ e))
-
-  pub begins_past : length p ≤ i → true ≡ begins_with p s
-  unfolding begins_with
-  begins_past h = sym (inv.same ∙ ap (λ (l : List ℕ). begins_with l (drop i s)) (drop_of_length-le p h))
 
 -- what the tests say of the lists
 pub same_is : (p s : List ℕ) → same_bytes p s ≡ true → s ≡ p

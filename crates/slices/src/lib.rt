@@ -10,67 +10,37 @@ ghost use Rattle.slices.specs.Store.{stored};
 pub fn find(s: &[u8], b: u8) -> usize
     ensures { (result ≡ index_of b s.now) × (result ≤ length s.now) }
 {
-    let mut i = 0;
-    while i < s.len() {
-        if s[i] == b {
-            return i;
-        }
-        i += 1;
-    }
-    i
+    s.iter().position(|&x| x == b).unwrap_or(s.len())
 }
 
 // The piece of s that a span, an offset and a length, names; it ends where s ends.
 pub fn piece(s: &[u8], at: usize, len: usize) -> &[u8]
     ensures { result.now ≡ piece_at s.now at len }
 {
-    if s.len() < at {
-        return &s[..0];
-    }
-    if s.len() - at < len {
-        return &s[at..];
-    }
-    &s[at..at + len]
+    let rest = &s[at.min(s.len())..];
+    &rest[..len.min(rest.len())]
 }
 
 // Whether s begins with p.
 pub fn begins(s: &[u8], p: &[u8]) -> bool
     ensures { result ≡ begins_with p.now s.now }
 {
-    if s.len() < p.len() {
-        return false;
-    }
-    let mut i = 0;
-    while i < p.len() {
-        if s[i] != p[i] {
-            return false;
-        }
-        i += 1;
-    }
-    true
+    s.starts_with(p)
 }
 
 // Whether s is exactly p.
 pub fn same(s: &[u8], p: &[u8]) -> bool
     ensures { result ≡ same_bytes p.now s.now }
 {
-    if s.len() != p.len() {
-        return false;
-    }
-    begins(s, p)
+    s == p
 }
 
 // `bytes` at the start of out and its old bytes behind; out is unchanged where they don't fit.
 pub fn put(out: &mut [u8], bytes: &[u8])
     ensures { out.new ≡ stored out.old bytes.now }
 {
-    if out.len() < bytes.len() {
-        return;
-    }
-    let mut i = 0;
-    while i < bytes.len() {
-        out[i] = bytes[i];
-        i += 1;
+    if bytes.len() <= out.len() {
+        out[..bytes.len()].copy_from_slice(bytes);
     }
 }
 
@@ -78,8 +48,5 @@ pub fn put(out: &mut [u8], bytes: &[u8])
 pub fn either(a: bool, b: bool) -> bool
     ensures { result ≡ (a || b) }
 {
-    if a {
-        return true;
-    }
-    b
+    a || b
 }
