@@ -75,18 +75,12 @@ fn closed(bar: Bar, right: u8, nth: u32) -> Bar
         key = 1;
     }
     Bar {
-        part: bar.part,
         right,
-        left: bar.left,
         number: nth,
-        clef: bar.clef,
         numerator,
         denominator,
-        symbol: bar.symbol,
         key,
-        fifths: bar.fifths,
-        mode: bar.mode,
-        tempo: bar.tempo,
+        ..bar
     }
 }
 
@@ -232,21 +226,7 @@ fn close(
 fn tallied(tally: Tally, bars: u32, at: usize) -> Tally
     ensures { result ≡ tallied tally bars at }
 {
-    let title = tally.title;
-    let composer = tally.composer;
-    let lyricist = tally.lyricist;
-    Tally {
-        active: tally.active,
-        parts: tally.parts,
-        bars,
-        notes: tally.notes,
-        notices: tally.notices,
-        tempo: tally.tempo,
-        title,
-        composer,
-        lyricist,
-        at,
-    }
+    Tally { bars, at, ..tally }
 }
 
 // Closes a bar in every part if any has a note, and else keeps a left barline.
@@ -351,18 +331,15 @@ fn end_with(cells: &[u32], tally: Tally) -> End
     requires { length cells.now ≡ 35 }
     ensures { result ≡ end_with (part_of cells.now).first tally }
 {
-    let title = tally.title;
-    let composer = tally.composer;
-    let lyricist = tally.lyricist;
     End {
         mode: (cells[33] % 256) as u8,
         fifths: (cells[32] % 256) as u8,
         numerator: (cells[28] % 256) as u8,
         denominator: (cells[29] % 256) as u8,
         tempo: tally.tempo,
-        title,
-        composer,
-        lyricist,
+        title: tally.title,
+        composer: tally.composer,
+        lyricist: tally.lyricist,
     }
 }
 

@@ -206,20 +206,10 @@ fn read_stretch(
 fn with_stretch(tally: Tally, s: Stretch) -> Tally
     ensures { result ≡ with_stretch tally s }
 {
-    let title = tally.title;
-    let composer = tally.composer;
-    let lyricist = tally.lyricist;
     Tally {
-        active: tally.active,
-        parts: tally.parts,
-        bars: tally.bars,
         notes: s.notes,
-        notices: tally.notices,
-        tempo: tally.tempo,
-        title,
-        composer,
-        lyricist,
         at: s.at,
+        ..tally
     }
 }
 

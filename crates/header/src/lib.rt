@@ -30,45 +30,18 @@ pub fn read_reference(line: &[u8], number: u32, offset: u32, tally: Tally, out: 
     let from = offset + 3;
     let value = sheet::span_of(from + r.value_at as u32, r.value_len as u32);
     let key = r.key;
-    let title = tally.title;
-    let composer = tally.composer;
-    let lyricist = tally.lyricist;
     match key {
         Key::Title => Tally {
-            active: tally.active,
-            parts: tally.parts,
-            bars: tally.bars,
-            notes: tally.notes,
-            notices: tally.notices,
-            tempo: tally.tempo,
             title: value,
-            composer,
-            lyricist,
-            at: tally.at,
+            ..tally
         },
         Key::Composer => Tally {
-            active: tally.active,
-            parts: tally.parts,
-            bars: tally.bars,
-            notes: tally.notes,
-            notices: tally.notices,
-            tempo: tally.tempo,
-            title,
             composer: value,
-            lyricist,
-            at: tally.at,
+            ..tally
         },
         Key::Lyricist => Tally {
-            active: tally.active,
-            parts: tally.parts,
-            bars: tally.bars,
-            notes: tally.notes,
-            notices: tally.notices,
-            tempo: tally.tempo,
-            title,
-            composer,
             lyricist: value,
-            at: tally.at,
+            ..tally
         },
         Key::Other => {
             let key = sheet::span_of(from + r.key_at as u32, r.key_len as u32);
@@ -309,20 +282,10 @@ pub fn read_header(
         };
     }
     fresh_parts(parts, kerns);
-    let title = tally.title;
-    let composer = tally.composer;
-    let lyricist = tally.lyricist;
     let begun = Tally {
         active: count,
         parts: kerns,
-        bars: tally.bars,
-        notes: tally.notes,
-        notices: tally.notices,
-        tempo: tally.tempo,
-        title,
-        composer,
-        lyricist,
-        at: tally.at,
+        ..tally
     };
     let told = notice_others(line, number, offset, begun, out);
     Step::Goes(told)

@@ -134,20 +134,10 @@ fn with_note(tally: Tally, at: usize) -> Tally
     requires { tally.notes < 100000 }
     ensures { result ≡ with_note tally at }
 {
-    let title = tally.title;
-    let composer = tally.composer;
-    let lyricist = tally.lyricist;
     Tally {
-        active: tally.active,
-        parts: tally.parts,
-        bars: tally.bars,
         notes: tally.notes + 1,
-        notices: tally.notices,
-        tempo: tally.tempo,
-        title,
-        composer,
-        lyricist,
         at,
+        ..tally
     }
 }
 

@@ -31,20 +31,9 @@ fn with_first(tally: Tally, bpm: u16) -> Tally
 {
     let first = tally.tempo == 0;
     if first {
-        let title = tally.title;
-        let composer = tally.composer;
-        let lyricist = tally.lyricist;
         return Tally {
-            active: tally.active,
-            parts: tally.parts,
-            bars: tally.bars,
-            notes: tally.notes,
-            notices: tally.notices,
             tempo: bpm,
-            title,
-            composer,
-            lyricist,
-            at: tally.at,
+            ..tally
         };
     }
     tally

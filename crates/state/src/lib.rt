@@ -45,19 +45,5 @@ pub fn past(at: usize, n: usize) -> usize
 pub fn with_active(tally: Tally, active: usize) -> Tally
     ensures { result ≡ with_active tally active }
 {
-    let title = tally.title;
-    let composer = tally.composer;
-    let lyricist = tally.lyricist;
-    Tally {
-        active,
-        parts: tally.parts,
-        bars: tally.bars,
-        notes: tally.notes,
-        notices: tally.notices,
-        tempo: tally.tempo,
-        title,
-        composer,
-        lyricist,
-        at: tally.at,
-    }
+    Tally { active, ..tally }
 }
