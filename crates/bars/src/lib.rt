@@ -255,12 +255,14 @@ pub fn read_bar(line: &[u8], row: &[u16], parts: &mut [u32], tally: Tally, out: 
 {
     let place = deciding(line, row);
     let token = slices::piece(line, place.0, place.1);
-    let b = notation::barline::kern_barline(token);
-    let right = b.right;
-    let left = b.left;
-    let right = notation::barline::barline_number(right);
-    let left = notation::barline::barline_number(left);
-    close_with(parts, tally, right, left, out)
+    let sides = notation::barline::kern_barline(token);
+    close_with(
+        parts,
+        tally,
+        u8::from(sides.right),
+        u8::from(sides.left),
+        out,
+    )
 }
 
 // The last closing, both sides Normal; the place behind its BARs.

@@ -84,10 +84,8 @@ fn alteration_of(signs: &[u8]) {
 // B: the deciding token of a bar record, to right and left.
 fn barlines_of(token: &[u8]) {
     let found = notation::barline::kern_barline(token);
-    let right = found.right;
-    let left = found.left;
-    io::print_decimal(1, notation::barline::barline_number(right) as u64);
-    next_number(notation::barline::barline_number(left) as u64);
+    io::print_decimal(1, u64::from(u8::from(found.right)));
+    next_number(u64::from(u8::from(found.left)));
 }
 
 // M: note tokens with blanks between, to their beams.
@@ -99,13 +97,11 @@ fn beams_of(tokens: &[u8]) {
         let end = from + slices::find(rest, b' ');
         let letters = notation::beam::beam_letters(&tokens[from..end]);
         let next = state.next(letters.starts, letters.ends);
-        let mark = next.mark;
         if 0 < from {
             print(b" ");
         }
-        io::print_decimal(1, notation::beam::beam_number(mark) as u64);
-        let after = next.state;
-        state = after;
+        io::print_decimal(1, u64::from(u8::from(next.mark)));
+        state = next.state;
         from = end + 1;
     }
 }

@@ -4,7 +4,7 @@ ghost use Rattle.notation.specs.Barline.{barline_number, right_of, left_of, barl
 
 use crate::bytes;
 
-#[derive(Clone, Copy)]
+#[derive(Debug, PartialEq, Eq, Clone, Copy)]
 pub enum Barline {
     Normal,
     Double,
@@ -15,23 +15,25 @@ pub enum Barline {
 }
 
 // The barline that closes a bar, and the one that the next bar begins with.
-#[derive(Clone, Copy)]
+#[derive(Debug, PartialEq, Eq, Clone, Copy)]
 pub struct Barlines {
     pub right: Barline,
     pub left: Barline,
 }
 
 // The sheet's number of a barline.
-pub fn barline_number(b: Barline) -> u8
-    ensures { result ≡ barline_number b }
-{
-    match b {
-        Barline::Normal => 0,
-        Barline::Double => 1,
-        Barline::Final => 2,
-        Barline::RepeatStart => 3,
-        Barline::RepeatEnd => 4,
-        Barline::Invisible => 8,
+impl From<Barline> for u8 {
+    ghost from_gives = { λ b r. r ≡ barline_number b };
+
+    fn from(barline: Barline) -> u8 {
+        match barline {
+            Barline::Normal => 0,
+            Barline::Double => 1,
+            Barline::Final => 2,
+            Barline::RepeatStart => 3,
+            Barline::RepeatEnd => 4,
+            Barline::Invisible => 8,
+        }
     }
 }
 
@@ -39,35 +41,28 @@ pub fn barline_number(b: Barline) -> u8
 fn right_barline(token: &[u8], body: &[u8]) -> Barline
     ensures { result ≡ right_of token.now body.now }
 {
-    if bytes::contains_pair(body, b':', b'|') {
-        return Barline::RepeatEnd;
+    if bytes::contains_pair(body, b':', b'|') || bytes::contains_pair(body, b':', b'!') {
+        Barline::RepeatEnd
+    } else if slices::begins(token, b"==") {
+        Barline::Final
+    } else if bytes::contains_pair(body, b'|', b'|') {
+        Barline::Double
+    } else if body.contains(&b'-') {
+        Barline::Invisible
+    } else {
+        Barline::Normal
     }
-    if bytes::contains_pair(body, b':', b'!') {
-        return Barline::RepeatEnd;
-    }
-    if slices::begins(token, b"==") {
-        return Barline::Final;
-    }
-    if bytes::contains_pair(body, b'|', b'|') {
-        return Barline::Double;
-    }
-    if bytes::contains(body, b'-') {
-        return Barline::Invisible;
-    }
-    Barline::Normal
 }
 
 // The barline that the next bar begins with, by the token's body.
 fn left_barline(body: &[u8]) -> Barline
     ensures { result ≡ left_of body.now }
 {
-    if bytes::contains_pair(body, b'|', b':') {
-        return Barline::RepeatStart;
+    if bytes::contains_pair(body, b'|', b':') || bytes::contains_pair(body, b'!', b':') {
+        Barline::RepeatStart
+    } else {
+        Barline::Normal
     }
-    if bytes::contains_pair(body, b'!', b':') {
-        return Barline::RepeatStart;
-    }
-    Barline::Normal
 }
 
 // The barlines of a token.
@@ -75,7 +70,8 @@ pub fn kern_barline(token: &[u8]) -> Barlines
     ensures { result ≡ barlines_of token.now }
 {
     let body = bytes::trim_start(token, b'=');
-    let right = right_barline(token, body);
-    let left = left_barline(body);
-    Barlines { right, left }
+    Barlines {
+        right: right_barline(token, body),
+        left: left_barline(body),
+    }
 }

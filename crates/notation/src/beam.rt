@@ -1,9 +1,9 @@
 // The beam of a voice.
-ghost use Rattle.std.specs.Prelude.{◌≡◌, ◌||◌, eqb};
+ghost use Rattle.std.specs.Prelude.{◌≡◌};
 ghost use Rattle.notation.specs.Beam.{letters_of, beamed, beam_number};
 
 // A note's place under a beam.
-#[derive(Clone, Copy)]
+#[derive(Debug, PartialEq, Eq, Clone, Copy)]
 pub enum Mark {
     None,
     Begin,
@@ -12,20 +12,20 @@ pub enum Mark {
 }
 
 // A voice's state: whether a beam is held open.
-#[derive(Clone, Copy)]
+#[derive(Debug, PartialEq, Eq, Clone, Copy)]
 pub struct Beam {
     pub held: bool,
 }
 
 // A note's mark, and the voice's state behind the note.
-#[derive(Clone, Copy)]
+#[derive(Debug, PartialEq, Eq, Clone, Copy)]
 pub struct Beamed {
     pub mark: Mark,
     pub state: Beam,
 }
 
 // Whether a token has a letter that starts a beam, and one that ends it.
-#[derive(Clone, Copy)]
+#[derive(Debug, PartialEq, Eq, Clone, Copy)]
 pub struct Letters {
     pub starts: bool,
     pub ends: bool,
@@ -33,76 +33,43 @@ pub struct Letters {
 
 impl Beam {
     // The state goes in, and comes back with the note's mark.
-    pub fn next(mut self, starts: bool, ends: bool) -> Beamed
+    pub fn next(self, starts: bool, ends: bool) -> Beamed
         ensures { result ≡ beamed self.held starts ends }
     {
-        if starts {
-            if ends {
-                self.held = false;
-                return Beamed {
-                    mark: Mark::None,
-                    state: self,
-                };
-            }
-            self.held = true;
-            return Beamed {
-                mark: Mark::Begin,
-                state: self,
-            };
-        }
-        if self.held {
-            if ends {
-                self.held = false;
-                return Beamed {
-                    mark: Mark::End,
-                    state: self,
-                };
-            }
-            return Beamed {
-                mark: Mark::Continue,
-                state: self,
-            };
-        }
+        let (mark, held) = match (starts, ends, self.held) {
+            (true, true, _) => (Mark::None, false),
+            (true, false, _) => (Mark::Begin, true),
+            (false, true, true) => (Mark::End, false),
+            (false, false, true) => (Mark::Continue, true),
+            (false, _, false) => (Mark::None, false),
+        };
         Beamed {
-            mark: Mark::None,
-            state: self,
+            mark,
+            state: Beam { held },
         }
     }
 }
 
 // The sheet's number of a mark.
-pub fn beam_number(m: Mark) -> u8
-    ensures { result ≡ beam_number m }
-{
-    match m {
-        Mark::None => 0,
-        Mark::Begin => 1,
-        Mark::Continue => 2,
-        Mark::End => 3,
-    }
-}
+impl From<Mark> for u8 {
+    ghost from_gives = { λ m r. r ≡ beam_number m };
 
-// Whether it was seen before, or x is b.
-fn either(seen: bool, x: u8, b: u8) -> bool
-    ensures { result ≡ (seen || eqb x b) }
-{
-    if seen {
-        return true;
+    fn from(mark: Mark) -> u8 {
+        match mark {
+            Mark::None => 0,
+            Mark::Begin => 1,
+            Mark::Continue => 2,
+            Mark::End => 3,
+        }
     }
-    x == b
 }
 
 // Whether L and J stand anywhere in the token.
 pub fn beam_letters(token: &[u8]) -> Letters
     ensures { result ≡ letters_of token.now }
 {
-    let mut starts = false;
-    let mut ends = false;
-    let mut i = 0;
-    while i < token.len() {
-        starts = either(starts, token[i], b'L');
-        ends = either(ends, token[i], b'J');
-        i += 1;
+    Letters {
+        starts: token.contains(&b'L'),
+        ends: token.contains(&b'J'),
     }
-    Letters { starts, ends }
 }

@@ -56,11 +56,9 @@ fn sound(cells: &mut [u32], voice: usize, starts: bool, ends: bool) -> u8
         held: cells[i] == 1,
     };
     let next = beam.next(starts, ends);
-    let mark = next.mark;
-    let state = next.state;
-    cells[i] = number_of(state.held);
+    cells[i] = number_of(next.state.held);
     cells[10] = 1;
-    notation::beam::beam_number(mark)
+    u8::from(next.mark)
 }
 
 // The same in one of `count` parts.

@@ -62,8 +62,7 @@ fn print_beam(token: &[u8]) {
     let letters = notation::beam::beam_letters(token);
     let fresh = Beam { held: false };
     let next = fresh.next(letters.starts, letters.ends);
-    let mark = next.mark;
-    print_number(notation::beam::beam_number(mark) as u64);
+    print_number(u64::from(u8::from(next.mark)));
 }
 
 fn print_note(n: Note, token: &[u8]) {

@@ -6,4 +6,4 @@ use Rattle.bars.proofs.read_bar.Goals as goal
 pub returns : goal.returns
 returns c = λ offset.
     let a = c.args in
-    read_told a.line.now a.row.now a.parts.now a.out.now a.tally a.tally.at offset (c.piece-token.ensures ∙ c.deciding-place.ensures) c.kern_barline-b.ensures c.barline_number-right.ensures c.barline_number-left.ensures (c.close_with.ensures a.row.now)
+    read_told a.line.now a.row.now a.parts.now a.out.now a.tally a.tally.at offset (c.piece-token.ensures ∙ c.deciding-place.ensures) c.kern_barline-sides.ensures c.from.ensures c.from-2.ensures (c.close_with.ensures a.row.now)

@@ -1,15 +1,11 @@
--- All bytes before i are b: what is left from i on is trimmed to the same.
-use Rattle.notation.proofs.ByteLaws.{trim_first, trim_turn, trim_done, trim_past}
+-- A turn takes one byte off; at the end the first byte is another.
+use mathlib.Core.Path.{ap, ◌∙◌}
+use Rattle.notation.specs.Bytes.{trim_start}
+use Rattle.notation.proofs.ByteLaws.{trim_on, trim_end}
 use Rattle.notation.proofs.bytes.trim_start.Goals as goal
 
-pub loop-i-init : goal.loop-i-init
-loop-i-init c = trim_first
-
-pub returns-then-s-i : goal.returns-then-s-i
-returns-then-s-i c = trim_done c.loop-i.invariant c.loop-i-test.true c.if-s-i.true
-
-pub loop-i-preserved : goal.loop-i-preserved
-loop-i-preserved c = trim_turn c.loop-i.invariant c.loop-i-test.true c.if-s-i.false
+pub loop-shorter-preserved : goal.loop-shorter-preserved
+loop-shorter-preserved c = ap (trim_start c.args.b) c.in-Some.ensures.cases.1 ∙ trim_on _ _ c.in-Some.ensures.cases.0 ∙ c.loop-shorter.invariant
 
 pub returns : goal.returns
-returns c = trim_past c.loop-i.invariant c.loop-i-test.false
+returns c = trim_end _ _ c.in_default.ensures.cases ∙ c.loop-shorter.invariant

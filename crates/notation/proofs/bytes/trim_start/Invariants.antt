@@ -1,11 +1,11 @@
--- All bytes before i are b: what is left from i on is trimmed to the same.
-use Prim.Native.Nat.{◌-◌}
+-- What is left to trim has the same end.
 use lib.ListN.{length}
-use Rattle.notation.proofs.ByteLaws.{Trim}
+use mathlib.Core.Path.{◌≡◌}
+use Rattle.notation.specs.Bytes.{trim_start}
 use Rattle.notation.proofs.bytes.trim_start.Given as goal
 
-abbrev pub invariant-loop-i : goal.invariant-loop-i
-invariant-loop-i l = Trim l.s l.b l.i
+abbrev pub invariant-loop-shorter : goal.invariant-loop-shorter
+invariant-loop-shorter l = trim_start l.b l.rest ≡ trim_start l.b l.s
 
-abbrev pub decreases-loop-i : goal.decreases-loop-i
-decreases-loop-i l = length l.s - l.i
+abbrev pub decreases-loop-shorter : goal.decreases-loop-shorter
+decreases-loop-shorter l = length l.rest
