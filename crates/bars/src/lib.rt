@@ -195,7 +195,7 @@ fn close_part(
     let bar = closed(current(cells), right, number);
     keep_if_first(cells, bar, number);
     renew(cells, left);
-    writing::write_bar(out, at, bar)
+    writing::write(out, at, bar)
 }
 
 // Closes a bar in each part, with their BARs by rising part; the place behind them.
@@ -323,7 +323,7 @@ fn write_parts(parts: &[u32], count: usize, out: &mut [u8], at: usize) -> usize
         let a = p * 35;
         let e = a + 35;
         let part = part_of(&parts[a..e]);
-        k = writing::write_part(out, k, part);
+        k = writing::write(out, k, part);
     }
     k
 }
@@ -369,5 +369,5 @@ pub fn finish(parts: &mut [u32], tally: Tally, out: &mut [u8]) -> usize
     let at = close_last(parts, tally, out);
     let k = write_parts(parts, count, out, at);
     let end = end_of(parts, tally);
-    writing::write_end(out, k, end)
+    writing::write(out, k, end)
 }

@@ -292,7 +292,7 @@ fn put_rest(out: &mut [u8], value: u8, actual: u8, normal: u8)
         pitches: 0,
         articulations: 0,
     };
-    sheet::put_note(out, note);
+    sheet::put(out, note);
 }
 
 // The rests that fill a hole, into a buffer that has room for them.

@@ -17,7 +17,7 @@ ghost use Rattle.header.specs.Columns.{notice_other, HeaderTable};
 ghost use Rattle.state.specs.Counts.{Same};
 
 use reference::Key;
-use sheet::Notice;
+use sheet::{Notice, Span};
 use spines::Active;
 use state::{Step, Tally};
 
@@ -216,7 +216,17 @@ fn notice_other(
     if lines::is_kern(token) {
         return tally;
     }
-    writing::notify(out, tally, 2, number, column, at, token.len() as u32)
+    writing::notify(
+        out,
+        tally,
+        2,
+        number,
+        column,
+        Span {
+            at,
+            len: token.len() as u32,
+        },
+    )
 }
 
 // Notice 2 for each of them.

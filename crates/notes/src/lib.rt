@@ -20,6 +20,7 @@ ghost use Rattle.notes.specs.Spot.{token_at, token_step, note_at, with_note, Kep
 use duration::Value;
 use notation::beam::Beam;
 use plain::Plain;
+use sheet::Span;
 use state::{Step, Tally};
 use token::outcome::{Note, Outcome};
 use token::scan::Scan;
@@ -152,8 +153,10 @@ fn notify_token(token: &[u8], number: u8, spot: Spot, tally: Tally, out: &mut [u
         number,
         spot.line,
         spot.column,
-        spot.at,
-        token.len() as u32,
+        Span {
+            at: spot.at,
+            len: token.len() as u32,
+        },
     )
 }
 
@@ -207,7 +210,7 @@ fn add_note(
             letters.ends,
         );
         let note = note_at(n, spot, t.bars, beam);
-        let at = writing::write_note(out, t.at, note, token);
+        let at = writing::write_note(out, t.at, note, token, None);
         return Step::Goes(with_note(t, at));
     }
     Step::Refused {
@@ -263,5 +266,5 @@ pub fn write_plain(
 {
     let beam = sound_part(parts, tally.parts, spot.part, spot.voice, p.starts, p.ends);
     let note = note_at(p.note, spot, tally.bars, beam);
-    writing::write_plain(out, at, note, p.tone, token)
+    writing::write_note(out, at, note, token, Some(p.tone))
 }

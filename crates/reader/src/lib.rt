@@ -220,7 +220,7 @@ fn write_sheet(text: &[u8], out: &mut [u8], parts: usize, notes: u32, at: usize)
         length: (16 + at) as u32,
         notes,
     };
-    sheet::put_head(out, head);
+    sheet::put(out, head);
 }
 
 // Reads a text into a lent buffer. Number, line and figure of a refusal, or the sheet's length; the buffer is unchanged after a refusal, and

@@ -19,6 +19,7 @@ ghost use Rattle.records.specs.Here.{Under, Here, Evenly};
 
 use lines::Kind;
 use repair::{Repair, Repaired};
+use sheet::Span;
 use state::{Step, Tally};
 
 // The number of the notice that says of a repair; 0 is none.
@@ -50,7 +51,17 @@ fn notice_repair(
     if n == 0 {
         return tally;
     }
-    writing::notify(out, tally, n, number, 0, offset, line.len() as u32)
+    writing::notify(
+        out,
+        tally,
+        n,
+        number,
+        0,
+        Span {
+            at: offset,
+            len: line.len() as u32,
+        },
+    )
 }
 
 // Whether a line of some kind is a record: neither empty nor begun by `!`.
@@ -148,7 +159,17 @@ fn read_record(
 {
     let active = tally.active;
     if active == 0 {
-        let noticed = writing::notify(out, tally, 3, number, 0, offset, line.len() as u32);
+        let noticed = writing::notify(
+            out,
+            tally,
+            3,
+            number,
+            0,
+            Span {
+                at: offset,
+                len: line.len() as u32,
+            },
+        );
         return Step::Ends(noticed);
     }
     match repair::repair_record(line, active) {

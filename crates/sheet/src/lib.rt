@@ -1,19 +1,20 @@
 #![tactic(auto)]
 
-// The records of the sheet, version 1: their fields, and a writer for each.
-ghost use Rattle.std.specs.Prelude.{◌≡◌};
+// The records of the sheet, version 1: their fields, the bytes of each, and one writer.
+ghost use Rattle.std.specs.Prelude.{◌≡◌, refl, ℕ, ◌<◌, ◌^◌, List, [], length};
 ghost use Rattle.slices.specs.Store.{stored};
-ghost use Rattle.sheet.specs.Record.{span_of, head_bytes, note_bytes, pitch_bytes, bar_bytes, part_bytes, end_bytes, notice_bytes};
+ghost use Rattle.sheet.specs.Record.{Record, BAR, PART, END, NOTICE, span_of, span_bytes, head_bytes, note_bytes, pitch_bytes, bar_bytes, part_bytes, end_bytes, notice_bytes, record_bytes};
+ghost use Rattle.std.proofs.Common.{rules};
 
 // A piece of the text.
-#[derive(Clone, Copy)]
+#[derive(Clone, Copy, PartialEq, Eq, Debug)]
 pub struct Span {
     pub at: u32,
     pub len: u32,
 }
 
 // The head, with the sheet's length in bytes and the count of its NOTEs.
-#[derive(Clone, Copy)]
+#[derive(Clone, Copy, PartialEq, Eq, Debug)]
 pub struct Head {
     pub parts: u16,
     pub length: u32,
@@ -21,7 +22,7 @@ pub struct Head {
 }
 
 // The fixed bytes of a NOTE: pitches and articulations are the counts of what follows.
-#[derive(Clone, Copy)]
+#[derive(Clone, Copy, PartialEq, Eq, Debug)]
 pub struct Note {
     pub part: u8,
     pub voice: u8,
@@ -39,14 +40,14 @@ pub struct Note {
 }
 
 // A pitch of a NOTE; alter is in two's complement.
-#[derive(Clone, Copy)]
+#[derive(Clone, Copy, PartialEq, Eq, Debug)]
 pub struct Pitch {
     pub step: u8,
     pub octave: u8,
     pub alter: u8,
 }
 
-#[derive(Clone, Copy)]
+#[derive(Clone, Copy, PartialEq, Eq, Debug)]
 pub struct Bar {
     pub part: u8,
     pub right: u8,
@@ -62,7 +63,7 @@ pub struct Bar {
     pub tempo: u16,
 }
 
-#[derive(Clone, Copy)]
+#[derive(Clone, Copy, PartialEq, Eq, Debug)]
 pub struct Part {
     pub part: u8,
     pub named: u8,
@@ -71,7 +72,7 @@ pub struct Part {
     pub short: Span,
 }
 
-#[derive(Clone, Copy)]
+#[derive(Clone, Copy, PartialEq, Eq, Debug)]
 pub struct End {
     pub mode: u8,
     pub fifths: u8,
@@ -84,7 +85,7 @@ pub struct End {
 }
 
 // A NOTICE; for number 17 the bytes of its value follow.
-#[derive(Clone, Copy)]
+#[derive(Clone, Copy, PartialEq, Eq, Debug)]
 pub struct Notice {
     pub number: u8,
     pub column: u16,
@@ -103,204 +104,220 @@ pub fn span_of(at: u32, len: u32) -> Span
     Span { at, len }
 }
 
-// The head, 16 bytes.
-pub fn put_head(out: &mut [u8], head: Head)
-    ensures { out.new ≡ stored out.old (head_bytes head) }
-{
-    let b = [
-        b'K',
-        b'R',
-        b'N',
-        0,
-        1,
-        0,
-        (head.parts % 256) as u8,
-        (head.parts / 256 % 256) as u8,
-        (head.length % 256) as u8,
-        (head.length / 256 % 256) as u8,
-        (head.length / 65536 % 256) as u8,
-        (head.length / 16777216 % 256) as u8,
-        (head.notes % 256) as u8,
-        (head.notes / 256 % 256) as u8,
-        (head.notes / 65536 % 256) as u8,
-        (head.notes / 16777216 % 256) as u8,
-    ];
-    slices::put(out, &b[..]);
+// What the sheet holds as N bytes.
+pub trait Fixed<const N: usize>: Copy {
+    ghost bytes: { Self → List ℕ };
+
+    // Its bytes, the lowest byte of a number first.
+    fn to_bytes(self) -> [u8; N]
+        ensures { result ≡ bytes self };
+
+    ghost short: { N < 2 ^ 63 };
+
+    ghost long: { (x : Self) → length (bytes x) ≡ N };
 }
 
-// A NOTE's fixed bytes, 28.
-pub fn put_note(out: &mut [u8], note: Note)
-    ensures { out.new ≡ stored out.old (note_bytes note) }
-{
-    let b = [
-        1,
-        note.part,
-        note.voice,
-        note.value,
-        (note.bar % 256) as u8,
-        (note.bar / 256 % 256) as u8,
-        (note.bar / 65536 % 256) as u8,
-        (note.bar / 16777216 % 256) as u8,
-        (note.line % 256) as u8,
-        (note.line / 256 % 256) as u8,
-        (note.line / 65536 % 256) as u8,
-        (note.line / 16777216 % 256) as u8,
-        (note.column % 256) as u8,
-        (note.column / 256 % 256) as u8,
-        note.dots,
-        note.flags,
-        note.actual,
-        note.normal,
-        note.beam,
-        0,
-        (note.pitches % 256) as u8,
-        (note.pitches / 256 % 256) as u8,
-        (note.pitches / 65536 % 256) as u8,
-        (note.pitches / 16777216 % 256) as u8,
-        (note.articulations % 256) as u8,
-        (note.articulations / 256 % 256) as u8,
-        (note.articulations / 65536 % 256) as u8,
-        (note.articulations / 16777216 % 256) as u8,
-    ];
-    slices::put(out, &b[..]);
+// A record that nothing follows.
+pub trait Whole<const N: usize>: Fixed<N> {
+    ghost as_record: { Self → Record };
+
+    ghost whole: { (x : Self) → record_bytes (as_record x) ≡ Self.bytes x };
 }
 
-// A pitch, 3 bytes.
-pub fn put_pitch(out: &mut [u8], pitch: Pitch)
-    ensures { out.new ≡ stored out.old (pitch_bytes pitch) }
+// The bytes at the start of a buffer, where they fit.
+pub fn put<F: Fixed<N>, const N: usize>(out: &mut [u8], fixed: F)
+    ensures { out.new ≡ stored out.old (F.bytes fixed) }
 {
-    let b = [pitch.step, pitch.octave, pitch.alter];
-    slices::put(out, &b[..]);
+    let bytes = fixed.to_bytes();
+    slices::put(out, &bytes);
 }
 
-// A BAR, 20 bytes.
-pub fn put_bar(out: &mut [u8], bar: Bar)
-    ensures { out.new ≡ stored out.old (bar_bytes bar) }
-{
-    let b = [
-        2,
-        bar.part,
-        bar.right,
-        bar.left,
-        (bar.number % 256) as u8,
-        (bar.number / 256 % 256) as u8,
-        (bar.number / 65536 % 256) as u8,
-        (bar.number / 16777216 % 256) as u8,
-        bar.clef,
-        bar.numerator,
-        bar.denominator,
-        bar.symbol,
-        bar.key,
-        bar.fifths,
-        bar.mode,
-        0,
-        (bar.tempo % 256) as u8,
-        (bar.tempo / 256 % 256) as u8,
-        0,
-        0,
-    ];
-    slices::put(out, &b[..]);
+// A span: its offset, its length.
+impl Fixed<8> for Span {
+    ghost bytes = { span_bytes };
+
+    ghost short = { Prim.search rules };
+
+    ghost long = { λ _. refl };
+
+    fn to_bytes(self) -> [u8; 8] {
+        let mut bytes = [0; 8];
+        bytes[..4].copy_from_slice(&self.at.to_le_bytes());
+        bytes[4..].copy_from_slice(&self.len.to_le_bytes());
+        bytes
+    }
 }
 
-// A PART, 20 bytes.
-pub fn put_part(out: &mut [u8], part: Part)
-    ensures { out.new ≡ stored out.old (part_bytes part) }
-{
-    let b = [
-        3,
-        part.part,
-        part.named,
-        part.clef,
-        (part.name.at % 256) as u8,
-        (part.name.at / 256 % 256) as u8,
-        (part.name.at / 65536 % 256) as u8,
-        (part.name.at / 16777216 % 256) as u8,
-        (part.name.len % 256) as u8,
-        (part.name.len / 256 % 256) as u8,
-        (part.name.len / 65536 % 256) as u8,
-        (part.name.len / 16777216 % 256) as u8,
-        (part.short.at % 256) as u8,
-        (part.short.at / 256 % 256) as u8,
-        (part.short.at / 65536 % 256) as u8,
-        (part.short.at / 16777216 % 256) as u8,
-        (part.short.len % 256) as u8,
-        (part.short.len / 256 % 256) as u8,
-        (part.short.len / 65536 % 256) as u8,
-        (part.short.len / 16777216 % 256) as u8,
-    ];
-    slices::put(out, &b[..]);
+// The head.
+impl Fixed<16> for Head {
+    ghost bytes = { head_bytes };
+
+    ghost short = { Prim.search rules };
+
+    ghost long = { λ x. unfold head_bytes in refl };
+
+    fn to_bytes(self) -> [u8; 16] {
+        let mut bytes = [0; 16];
+        bytes[..4].copy_from_slice(b"KRN\0");
+        bytes[4] = 1;
+        bytes[6..8].copy_from_slice(&self.parts.to_le_bytes());
+        bytes[8..12].copy_from_slice(&self.length.to_le_bytes());
+        bytes[12..].copy_from_slice(&self.notes.to_le_bytes());
+        bytes
+    }
 }
 
-// The END, 32 bytes.
-pub fn put_end(out: &mut [u8], end: End)
-    ensures { out.new ≡ stored out.old (end_bytes end) }
-{
-    let b = [
-        4,
-        end.mode,
-        end.fifths,
-        0,
-        end.numerator,
-        end.denominator,
-        (end.tempo % 256) as u8,
-        (end.tempo / 256 % 256) as u8,
-        (end.title.at % 256) as u8,
-        (end.title.at / 256 % 256) as u8,
-        (end.title.at / 65536 % 256) as u8,
-        (end.title.at / 16777216 % 256) as u8,
-        (end.title.len % 256) as u8,
-        (end.title.len / 256 % 256) as u8,
-        (end.title.len / 65536 % 256) as u8,
-        (end.title.len / 16777216 % 256) as u8,
-        (end.composer.at % 256) as u8,
-        (end.composer.at / 256 % 256) as u8,
-        (end.composer.at / 65536 % 256) as u8,
-        (end.composer.at / 16777216 % 256) as u8,
-        (end.composer.len % 256) as u8,
-        (end.composer.len / 256 % 256) as u8,
-        (end.composer.len / 65536 % 256) as u8,
-        (end.composer.len / 16777216 % 256) as u8,
-        (end.lyricist.at % 256) as u8,
-        (end.lyricist.at / 256 % 256) as u8,
-        (end.lyricist.at / 65536 % 256) as u8,
-        (end.lyricist.at / 16777216 % 256) as u8,
-        (end.lyricist.len % 256) as u8,
-        (end.lyricist.len / 256 % 256) as u8,
-        (end.lyricist.len / 65536 % 256) as u8,
-        (end.lyricist.len / 16777216 % 256) as u8,
-    ];
-    slices::put(out, &b[..]);
+// A NOTE's fixed bytes.
+impl Fixed<28> for Note {
+    ghost bytes = { note_bytes };
+
+    ghost short = { Prim.search rules };
+
+    ghost long = { λ x. unfold note_bytes in refl };
+
+    fn to_bytes(self) -> [u8; 28] {
+        let mut bytes = [0; 28];
+        bytes[0] = 1;
+        bytes[1] = self.part;
+        bytes[2] = self.voice;
+        bytes[3] = self.value;
+        bytes[4..8].copy_from_slice(&self.bar.to_le_bytes());
+        bytes[8..12].copy_from_slice(&self.line.to_le_bytes());
+        bytes[12..14].copy_from_slice(&self.column.to_le_bytes());
+        bytes[14] = self.dots;
+        bytes[15] = self.flags;
+        bytes[16] = self.actual;
+        bytes[17] = self.normal;
+        bytes[18] = self.beam;
+        bytes[20..24].copy_from_slice(&self.pitches.to_le_bytes());
+        bytes[24..].copy_from_slice(&self.articulations.to_le_bytes());
+        bytes
+    }
+}
+
+// A pitch.
+impl Fixed<3> for Pitch {
+    ghost bytes = { pitch_bytes };
+
+    ghost short = { Prim.search rules };
+
+    ghost long = { λ x. unfold pitch_bytes in refl };
+
+    fn to_bytes(self) -> [u8; 3] {
+        [self.step, self.octave, self.alter]
+    }
+}
+
+// A BAR.
+impl Fixed<20> for Bar {
+    ghost bytes = { bar_bytes };
+
+    ghost short = { Prim.search rules };
+
+    ghost long = { λ x. unfold bar_bytes in refl };
+
+    fn to_bytes(self) -> [u8; 20] {
+        let mut bytes = [0; 20];
+        bytes[0] = 2;
+        bytes[1] = self.part;
+        bytes[2] = self.right;
+        bytes[3] = self.left;
+        bytes[4..8].copy_from_slice(&self.number.to_le_bytes());
+        bytes[8] = self.clef;
+        bytes[9] = self.numerator;
+        bytes[10] = self.denominator;
+        bytes[11] = self.symbol;
+        bytes[12] = self.key;
+        bytes[13] = self.fifths;
+        bytes[14] = self.mode;
+        bytes[16..18].copy_from_slice(&self.tempo.to_le_bytes());
+        bytes
+    }
+}
+
+impl Whole<20> for Bar {
+    ghost as_record = { BAR };
+
+    ghost whole = { λ x. unfold record_bytes in refl };
+}
+
+// A PART.
+impl Fixed<20> for Part {
+    ghost bytes = { part_bytes };
+
+    ghost short = { Prim.search rules };
+
+    ghost long = { λ x. unfold part_bytes in refl };
+
+    fn to_bytes(self) -> [u8; 20] {
+        let mut bytes = [0; 20];
+        bytes[0] = 3;
+        bytes[1] = self.part;
+        bytes[2] = self.named;
+        bytes[3] = self.clef;
+        bytes[4..12].copy_from_slice(&self.name.to_bytes());
+        bytes[12..].copy_from_slice(&self.short.to_bytes());
+        bytes
+    }
+}
+
+impl Whole<20> for Part {
+    ghost as_record = { PART };
+
+    ghost whole = { λ x. unfold record_bytes in refl };
+}
+
+// The END.
+impl Fixed<32> for End {
+    ghost bytes = { end_bytes };
+
+    ghost short = { Prim.search rules };
+
+    ghost long = { λ x. unfold end_bytes in refl };
+
+    fn to_bytes(self) -> [u8; 32] {
+        let mut bytes = [0; 32];
+        bytes[0] = 4;
+        bytes[1] = self.mode;
+        bytes[2] = self.fifths;
+        bytes[4] = self.numerator;
+        bytes[5] = self.denominator;
+        bytes[6..8].copy_from_slice(&self.tempo.to_le_bytes());
+        bytes[8..16].copy_from_slice(&self.title.to_bytes());
+        bytes[16..24].copy_from_slice(&self.composer.to_bytes());
+        bytes[24..].copy_from_slice(&self.lyricist.to_bytes());
+        bytes
+    }
+}
+
+impl Whole<32> for End {
+    ghost as_record = { END };
+
+    ghost whole = { λ x. unfold record_bytes in refl };
 }
 
 // A NOTICE's first 24 bytes.
-pub fn put_notice(out: &mut [u8], notice: Notice)
-    ensures { out.new ≡ stored out.old (notice_bytes notice) }
-{
-    let b = [
-        5,
-        notice.number,
-        (notice.column % 256) as u8,
-        (notice.column / 256 % 256) as u8,
-        (notice.line % 256) as u8,
-        (notice.line / 256 % 256) as u8,
-        (notice.line / 65536 % 256) as u8,
-        (notice.line / 16777216 % 256) as u8,
-        (notice.value.at % 256) as u8,
-        (notice.value.at / 256 % 256) as u8,
-        (notice.value.at / 65536 % 256) as u8,
-        (notice.value.at / 16777216 % 256) as u8,
-        (notice.value.len % 256) as u8,
-        (notice.value.len / 256 % 256) as u8,
-        (notice.value.len / 65536 % 256) as u8,
-        (notice.value.len / 16777216 % 256) as u8,
-        (notice.key.at % 256) as u8,
-        (notice.key.at / 256 % 256) as u8,
-        (notice.key.at / 65536 % 256) as u8,
-        (notice.key.at / 16777216 % 256) as u8,
-        (notice.key.len % 256) as u8,
-        (notice.key.len / 256 % 256) as u8,
-        (notice.key.len / 65536 % 256) as u8,
-        (notice.key.len / 16777216 % 256) as u8,
-    ];
-    slices::put(out, &b[..]);
+impl Fixed<24> for Notice {
+    ghost bytes = { notice_bytes };
+
+    ghost short = { Prim.search rules };
+
+    ghost long = { λ x. unfold notice_bytes in refl };
+
+    fn to_bytes(self) -> [u8; 24] {
+        let mut bytes = [0; 24];
+        bytes[0] = 5;
+        bytes[1] = self.number;
+        bytes[2..4].copy_from_slice(&self.column.to_le_bytes());
+        bytes[4..8].copy_from_slice(&self.line.to_le_bytes());
+        bytes[8..16].copy_from_slice(&self.value.to_bytes());
+        bytes[16..].copy_from_slice(&self.key.to_bytes());
+        bytes
+    }
+}
+
+impl Whole<24> for Notice {
+    ghost as_record = { λ n. NOTICE n [] };
+
+    ghost whole = { λ x. unfold record_bytes notice_bytes in refl };
 }

@@ -23,6 +23,7 @@ ghost use Rattle.stars.specs.Next.{stepped};
 
 use interpretation::Interpretation;
 use paths::PathToken;
+use sheet::Span;
 use state::{Step, Tally};
 
 // The counts with a tempo, if it is the first.
@@ -85,7 +86,7 @@ fn give_notice(
         Interpretation::Name => tally,
         Interpretation::ShortName => tally,
         Interpretation::Mode(_) => tally,
-        Interpretation::Notice(n) => writing::notify(out, tally, n, number, column, at, len),
+        Interpretation::Notice(n) => writing::notify(out, tally, n, number, column, Span { at, len }),
     }
 }
 
@@ -170,7 +171,7 @@ fn read_column(
         PathToken::End => tally,
         PathToken::Add => {
             let len = token.len() as u32;
-            writing::notify(out, tally, 7, number, column, offset, len)
+            writing::notify(out, tally, 7, number, column, Span { at: offset, len })
         }
         PathToken::Other => apply_in(token, cell, parts, tally, number, column, offset, out),
     }

@@ -22,7 +22,7 @@ returns c = let a = c.args in
           ∙ ap (λ (b : Bar). renewed a.left (cond (eqb a.number 1) (with_first p b) p)) bar
           ∙ closed_part_lem a.right a.left a.number p,
       (
-        c.write_bar.ensures.0 ∙ ap (λ (b : Bar). laid a.out.now a.at (BAR b ∷ [])) bar,
-        c.write_bar.ensures.1 ∙ ap (λ (b : Bar). behind a.at (BAR b ∷ [])) bar,
+        c.write.ensures.0 ∙ ap (λ (b : Bar). laid a.out.now a.at (BAR b ∷ [])) bar,
+        c.write.ensures.1 ∙ ap (λ (b : Bar). behind a.at (BAR b ∷ [])) bar,
       ),
     )

@@ -12,21 +12,18 @@ write_parts-k-requires c = (c.close_last-at.auto.parts ∙ c.requires.0, c.requi
 pub end_of-end-requires : goal.end_of-end-requires
 end_of-end-requires c = (c.close_last-at.auto.parts ∙ c.requires.0, c.requires.1.0)
 
-pub write_end-requires : goal.write_end-requires
-write_end-requires c = tt
-
 pub shape_of-parts : goal.shape_of-parts
 shape_of-parts c = c.close_last-at.auto.parts
 
 pub shape_of-out : goal.shape_of-out
-shape_of-out c = c.write_end.auto.out ∙ c.write_parts-k.auto.out ∙ c.close_last-at.auto.out
+shape_of-out c = c.write.auto.out ∙ c.write_parts-k.auto.out ∙ c.close_last-at.auto.out
 
 pub returns : goal.returns
 returns c = λ cells.
     let a = c.args in
     let g = c.close_last-at.ensures in
     let p = c.write_parts-k.ensures in
-    let w = c.write_end.ensures in
+    let w = c.write.ensures in
     let e = c.end_of-end.ensures in (
       finish_out a.parts.now c.close_last-at.new.parts a.out.now a.tally g.0 g.1.0 g.1.1 p.0 p.1 e w.0 w.1 cells,
       finish_at_lem a.parts.now c.close_last-at.new.parts a.out.now a.tally g.0 g.1.0 g.1.1 p.0 p.1 e w.0 w.1 cells,

@@ -17,7 +17,7 @@ loop-p-init c = fall_first
 pub loop-p-preserved : goal.loop-p-preserved
 loop-p-preserved c = let p = c.loop-p.p in
     let z : ((p - 1) * 35 + 35) - (p - 1) * 35 ≡ 35 = omega arith in
-    fall_turn _ _ (PART c.part_of-part.result) c.loop-p.invariant c.loop-p-test.true refl z c.part_of-part.ensures c.write_part-k.ensures.0 c.write_part-k.ensures.1
+    fall_turn _ _ (PART c.part_of-part.result) c.loop-p.invariant c.loop-p-test.true refl z c.part_of-part.ensures c.write-k.ensures.0 c.write-k.ensures.1
 
 pub shape_of-out : goal.shape_of-out
 shape_of-out c = ap length (fall_out c.loop-p.invariant c.loop-p-test.false) ∙ laid_length (map part_record (reverse (parts_of c.args.count c.args.parts.now))) c.args.out.now c.args.at

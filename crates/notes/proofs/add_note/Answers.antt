@@ -14,7 +14,11 @@ note_at-note-requires c = let g = gives c.args.token.now in
     ((omega (arith, g.pitches, p.1.0, p.0.short), omega (arith, g.articulations, p.1.1, p.0.short)), (omega (arith, p.0.part_in, p.0.parts_few), (p.0.voice_in, omega (arith, k, p.0.bars_few))))
 
 pub write_note-at-requires : goal.write_note-at-requires
-write_note-at-requires c = (ap (λ (x : NoteWritten). x.pitches) c.note_at-note.ensures ∙ c.requires.1.0, ap (λ (x : NoteWritten). x.articulations) c.note_at-note.ensures ∙ c.requires.1.1)
+write_note-at-requires c = record {
+      pitches = ap (λ (x : NoteWritten). x.pitches) c.note_at-note.ensures ∙ c.requires.1.0;
+      articulations = ap (λ (x : NoteWritten). x.articulations) c.note_at-note.ensures ∙ c.requires.1.1;
+      alone = tt;
+    }
 
 pub returns-then-room : goal.returns-then-room
 returns-then-room c = (λ cells. note_added cells c.args.parts.now c.sound_part-beam.new.parts c.args.token.now c.args.n c.args.spot (omega arith) c.notify_inferred-t.ensures c.beam_letters-letters.ensures c.sound_part-beam.ensures.0 c.sound_part-beam.ensures.1 c.note_at-note.ensures c.write_note-at.ensures.0 c.write_note-at.ensures.1 c.with_note.ensures, note_same c.notify_inferred-t.ensures.same c.with_note.ensures)

@@ -16,14 +16,18 @@ note_at-note-requires c = let g = gives c.args.token.now in
     let p = c.requires.0 in
     ((omega (arith, g.pitches, l.pitches, p.short), omega (arith, g.articulations, l.articulations, p.short)), (omega (arith, p.part_in, p.parts_few), (p.voice_in, p.bars_few)))
 
-pub write_plain-requires : goal.write_plain-requires
-write_plain-requires c = let l = plain_lists c.requires.1 in
-    (ap (λ (x : NoteWritten). x.pitches) c.note_at-note.ensures ∙ l.pitches, (ap (λ (x : NoteWritten). x.articulations) c.note_at-note.ensures ∙ l.articulations, plain_alone c.requires.1))
+pub write_note-requires : goal.write_note-requires
+write_note-requires c = let l = plain_lists c.requires.1 in
+    record {
+      pitches = ap (λ (x : NoteWritten). x.pitches) c.note_at-note.ensures ∙ l.pitches;
+      articulations = ap (λ (x : NoteWritten). x.articulations) c.note_at-note.ensures ∙ l.articulations;
+      alone = plain_alone c.requires.1;
+    }
 
 pub returns : goal.returns
 returns c = let is = c.note_at-note.ensures ∙ ap (note_at c.args.p.note c.args.spot c.args.tally.bars) c.sound_part-beam.ensures.1 in
     record {
       sounds = c.sound_part-beam.ensures.0;
-      lays = c.write_plain.ensures.0 ∙ ap (λ (x : NoteWritten). laid c.args.out.now c.args.at (note_record x c.args.token.now ∷ [])) is;
-      ends = c.write_plain.ensures.1 ∙ ap (λ (x : NoteWritten). behind c.args.at (note_record x c.args.token.now ∷ [])) is;
+      lays = c.write_note.ensures.0 ∙ ap (λ (x : NoteWritten). laid c.args.out.now c.args.at (note_record x c.args.token.now ∷ [])) is;
+      ends = c.write_note.ensures.1 ∙ ap (λ (x : NoteWritten). behind c.args.at (note_record x c.args.token.now ∷ [])) is;
     }

@@ -5,4 +5,4 @@ use Rattle.writing.proofs.WriteLaws.{wrote, noted_length}
 use Rattle.writing.proofs.write_note.Goals as goal
 
 pub returns : goal.returns
-returns c = wrote (note_record c.args.note c.args.token.now) c.args.out.now c.args.at refl (noted_length c.args.note c.args.token.now c.requires.0 c.requires.1) c.at_most-k.ensures c.put_noted.ensures c.past.ensures
+returns c = wrote (note_record c.args.note c.args.token.now) c.args.out.now c.args.at refl (noted_length c.args.note c.args.token.now c.requires.pitches c.requires.articulations) c.min-k.ensures c.put_noted.ensures c.past.ensures

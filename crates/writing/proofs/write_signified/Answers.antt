@@ -9,4 +9,4 @@ use Rattle.writing.proofs.WriteLaws.{wrote}
 use Rattle.writing.proofs.write_signified.Goals as goal
 
 pub returns : goal.returns
-returns c = wrote (NOTICE c.args.notice (signifiers_of (items c.args.token.now))) c.args.out.now c.args.at refl (NOTICE_length c.args.notice (signifiers_of (items c.args.token.now)) ∙ ap (λ (k : ℕ). 24 + k) (sym c.requires.0)) c.at_most-k.ensures c.put_signified.ensures c.past.ensures
+returns c = wrote (NOTICE c.args.notice (signifiers_of (items c.args.token.now))) c.args.out.now c.args.at refl (NOTICE_length c.args.notice (signifiers_of (items c.args.token.now)) ∙ ap (λ (k : ℕ). 24 + k) (sym c.requires.0)) c.min-k.ensures c.put_signified.ensures c.past.ensures

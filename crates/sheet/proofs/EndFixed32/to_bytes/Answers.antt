@@ -1,0 +1,16 @@
+-- Each part stands where the definition has it.
+use Rattle.sheet.specs.Record.{end_bytes}
+use Rattle.sheet.proofs.EndFixed32.to_bytes.Goals as goal
+
+pub returns : goal.returns
+unfolding end_bytes
+returns c = rw (
+  c.copy_from_slice.ensures.after,
+  c.copy_from_slice-2.ensures.after,
+  c.copy_from_slice-3.ensures.after,
+  c.copy_from_slice-4.ensures.after,
+  c.to_le_bytes.ensures,
+  c.to_bytes.ensures,
+  c.to_bytes-2.ensures,
+  c.to_bytes-3.ensures,
+)
