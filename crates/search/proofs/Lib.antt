@@ -1,2 +1,2 @@
--- Laws of the searches by blocks.
+-- Laws of the searches and the counts by blocks.
 pub mod BlockLaws

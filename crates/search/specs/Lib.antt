@@ -1,2 +1,2 @@
--- What a search and a count by blocks of bytes keep.
+-- What a search by blocks of bytes keeps.
 pub mod Blocks

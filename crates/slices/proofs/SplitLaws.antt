@@ -7,9 +7,8 @@ use native.Mathlib.Omega.{arith}
 use mathlib.Core.List.{List, [], ◌∷◌}
 use mathlib.Core.Bool.{Bool, true, false, cond}
 use lib.Dec.{eqb}
-use lib.ListN.{length, take, drop, get_or, drop_of_length-le}
+use lib.ListN.{length, take, drop, get_or}
 use lib.Seq.{drop-cons}
-use borrow.Author.Tests.{eq-eqb, ne_eqb}
 use Rattle.slices.specs.Split.{join, split, pieces, index_of}
 
 -- the first piece, and the pieces behind it
@@ -64,7 +63,7 @@ count_by b x xs false =
     ap (λ (r : List (List ℕ)). length (join false x r)) (first_piece b xs)
     ∙ sym (zero-add _ ∙ ap length (first_piece b xs))
 
-count_more : (b x : ℕ) (xs : List ℕ) → length (split b (x ∷ xs)) ≡ cond (eqb x b) 1 0 + length (split b xs)
+pub count_more : (b x : ℕ) (xs : List ℕ) → length (split b (x ∷ xs)) ≡ cond (eqb x b) 1 0 + length (split b xs)
 unfolding split
 count_more b x xs = count_by b x xs (eqb x b)
 
@@ -87,26 +86,10 @@ index_inside b (x ∷ s) = go (eqb x b) (index_inside b s)
     go true h = omega arith
     go false h = omega arith
 
-count_none : (b : ℕ) → length (split b []) ≡ 1
+pub count_none : (b : ℕ) → length (split b []) ≡ 1
 unfolding split
 count_none b = refl
 
 -- ---- a loop over the indices: what is left from i on, and from i + 1 on
 pub at_index : (xs : List ℕ) (i : ℕ) → i < length xs → drop i xs ≡ get_or xs i 0 ∷ drop (i + 1) xs
 at_index xs i h = rw (add-one, drop-cons xs i 0)
-
-module _ (b i : ℕ) (xs : List ℕ) where
-  pub find_here : i < length xs → get_or xs i 0 ≡ b → index_of b (drop i xs) ≡ 0
-  find_here h e = ap (index_of b) (at_index xs i h) ∙ rw (index_more, eq-eqb _ _ e)
-
-  pub find_on : i < length xs → (get_or xs i 0 ≡ b → ⊥) → index_of b (drop i xs) ≡ suc (index_of b (drop (i + 1) xs))
-  find_on h e = ap (index_of b) (at_index xs i h) ∙ rw (index_more, ne_eqb _ _ e)
-
-  pub find_end : length xs ≤ i → index_of b (drop i xs) ≡ 0
-  find_end h = ap (index_of b) (drop_of_length-le xs h) ∙ index_none b
-
-  pub count_at : i < length xs → length (split b (drop i xs)) ≡ cond (eqb (get_or xs i 0) b) 1 0 + length (split b (drop (i + 1) xs))
-  count_at h = ap (λ (l : List ℕ). length (split b l)) (at_index xs i h) ∙ count_more b (get_or xs i 0) (drop (i + 1) xs)
-
-  pub count_end : length xs ≤ i → length (split b (drop i xs)) ≡ 1
-  count_end h = ap (λ (l : List ℕ). length (split b l)) (drop_of_length-le xs h) ∙ count_none b

@@ -1,11 +1,8 @@
 -- `blocks`: no b stands from `from` up to i, which is its contract's record.
-use Prim.Native.Nat.{◌-◌}
-use lib.ListN.{length}
+use mathlib.Core.Path.{◌≡◌}
+use Prim.Native.Nat.{◌+◌, ◌*◌}
 use Rattle.search.specs.Blocks.{Without}
 use Rattle.search.proofs.blocks.Given as goal
 
-abbrev pub invariant-loop-i : goal.invariant-loop-i
-invariant-loop-i l = Without l.b l.s l.from l.i
-
-abbrev pub decreases-loop-i : goal.decreases-loop-i
-decreases-loop-i l = length l.s - l.i
+abbrev pub invariant-loop-block : goal.invariant-loop-block
+invariant-loop-block g l = Without l.b l.s l.from l.i × (l.i ≡ l.from + g.row.N * l.block-index)

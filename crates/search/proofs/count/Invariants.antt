@@ -1,11 +1,10 @@
--- `count`: n and m bytes b stand before i.
-use Prim.Native.Nat.{◌+◌, ◌-◌, ◌≤◌}
-use lib.ListN.{length}
-use Rattle.search.specs.Blocks.{Hits}
+-- `count`: n bytes b stand in the parts so far.
+use mathlib.Core.Path.{◌≡◌}
+use Prim.Native.Nat.{◌*◌}
+use lib.ListN.{take}
+use Rattle.std.specs.List.{count_by}
+use lib.Dec.{eqb}
 use Rattle.search.proofs.count.Given as goal
 
-abbrev pub invariant-loop-i : goal.invariant-loop-i
-invariant-loop-i l = Hits l.b l.s 0 l.i (l.n + l.m) × (l.m ≤ 255)
-
-abbrev pub decreases-loop-i : goal.decreases-loop-i
-decreases-loop-i l = length l.s - l.i
+abbrev pub invariant-loop-part : goal.invariant-loop-part
+invariant-loop-part l = l.n ≡ count_by (λ x. eqb x l.b) (take (255 * l.part-index) l.s)
