@@ -14,7 +14,7 @@ use Rattle.lines.specs.Lines.{kind_of}
 use Rattle.lines.specs.declared.Kind.{Kind}
 use Rattle.lines.specs.declared.Kind.TheVariants.{Empty, Reference, Comment, Star, Bar, Data}
 
-pub kind_empty : (s : List ℕ) → length s ≡ 0 → Empty ≡ kind_of s
+pub kind_empty : (s : List ℕ) → length s < 1 → Empty ≡ kind_of s
 unfolding kind_of same_bytes begins_with
 kind_empty [] e = refl
 kind_empty (x ∷ s) e = absurd (omega arith)

@@ -1,56 +1,37 @@
--- A line's trailing CRs: what the loop from the end keeps, and the line cut there.
-use mathlib.Core.Path.{◌≡◌, refl, sym, ap, ◌∙◌}
-use Prim.Native.Nat.{ℕ, suc, ◌-◌, ◌≤◌, ◌<◌}
+-- A line's trailing CRs: by the last byte that is none, and the line cut there.
+use mathlib.Core.Path.{◌≡◌, refl, sym, ap}
+use Prim.Native.Nat.{ℕ, zero, suc, ◌+◌, ◌≤◌, ◌<◌}
+use native.Mathlib.Nat.{not-suc-le-zero}
 use native.Mathlib.Omega.{arith}
-use mathlib.Core.List.{List, [], ◌∷◌, ◌++◌}
+use mathlib.Core.List.{List, [], ◌∷◌}
 use mathlib.Core.Bool.{Bool, true, false, cond}
 use lib.Dec.{eqb}
 use lib.ListN.{length, take, get_or}
-use lib.Seq.{take-length, length-take-le}
 use borrow.Author.Tests.{ne_eqb}
+use Rattle.std.proofs.Common.{Option, None, Some}
+use Rattle.std.specs.Option.{MatchOption, option_map_or}
 use Rattle.lines.specs.Lines.{keep, without_crs}
-use Rattle.slices.proofs.PieceLaws.{last_at}
 
-cr_last : (xs : List ℕ) → without_crs (xs ++ (13 ∷ [])) ≡ without_crs xs
+-- nothing but CRs
+pub none_kept : (s : List ℕ) → ((k : ℕ) → k < length s → get_or s k 0 ≡ 13) → without_crs s ≡ []
 unfolding without_crs keep
-cr_last [] = refl
-cr_last (x ∷ xs) = ap (keep x) (cr_last xs)
+none_kept [] all = refl
+none_kept (x ∷ xs) all = rw (none_kept xs (λ k h. all (suc k) (omega arith)), all 0 (omega arith))
 
-keep_more : (x y : ℕ) (ys : List ℕ) → keep x (ys ++ (y ∷ [])) ≡ x ∷ (ys ++ (y ∷ []))
+keep_some : (x : ℕ) (ys : List ℕ) → 0 < length ys → length (keep x ys) ≡ suc (length ys)
 unfolding keep
-keep_more x y [] = refl
-keep_more x y (z ∷ ys) = refl
+keep_some x [] h = absurd (not-suc-le-zero h)
+keep_some x (y ∷ ys) h = refl
 
-other_last : (y : ℕ) → (y ≡ 13 → ⊥) → (xs : List ℕ) → without_crs (xs ++ (y ∷ [])) ≡ xs ++ (y ∷ [])
+-- the last byte that is no CR is the last that stays
+pub last_kept : (s : List ℕ) (i : ℕ) → i < length s → (get_or s i 0 ≡ 13 → ⊥) → ((k : ℕ) → i < k → k < length s → get_or s k 0 ≡ 13)
+    → length (without_crs s) ≡ i + 1
 unfolding without_crs keep
-other_last y h [] = rw (ne_eqb y 13 h)
-other_last y h (x ∷ xs) = ap (keep x) (other_last y h xs) ∙ keep_more x y xs
-
--- the loop of `content`: the bytes from n on were CRs
-pub record Trim (s : List ℕ) (n : ℕ) : Type 0 where
-  pub high : n ≤ length s
-  pub same : without_crs s ≡ without_crs (take n s)
-
-pub trim_first : {s : List ℕ} → Trim s (length s)
-trim_first {s} = record { high = omega arith; same = ap without_crs (sym (take-length s)) }
-
-module _ {s : List ℕ} {n : ℕ} (inv : Trim s n) where
-  pub trim_turn : 0 < n → get_or s (n - 1) 0 ≡ 13 → Trim s (n - 1)
-  trim_turn h e = record {
-    high = omega arith;
-    same = inv.same ∙ rw (last_at s n h inv.high, e) (cr_last (take (n - 1) s));
-  }
-
-  pub trim_done : 0 < n → (get_or s (n - 1) 0 ≡ 13 → ⊥) → (n ≡ length (without_crs s)) × (n ≤ length s)
-  trim_done h other =
-      let whole : without_crs (take n s) ≡ take n s = rw (last_at s n h inv.high) (other_last (get_or s (n - 1) 0) other (take (n - 1) s)) in
-      (sym (ap length (inv.same ∙ whole) ∙ length-take-le n s inv.high), inv.high)
-
-  pub trim_past : n ≤ 0 → (0 ≡ length (without_crs s)) × (0 ≤ length s)
-  unfolding without_crs
-  trim_past h =
-      let e : n ≡ 0 = omega arith in
-      (sym (ap length (inv.same ∙ ap (λ (k : ℕ). without_crs (take k s)) e)), omega arith)
+last_kept [] i h other crs = absurd (not-suc-le-zero h)
+last_kept (x ∷ xs) zero h other crs = rw (none_kept xs (λ k l. crs (suc k) (omega arith) (omega arith)), ne_eqb x 13 other)
+last_kept (x ∷ xs) (suc i) h other crs =
+    let e : length (without_crs xs) ≡ i + 1 = last_kept xs i (omega arith) other (λ k l m. crs (suc k) (omega arith) (omega arith)) in
+    omega (arith, e, keep_some x (without_crs xs) (omega arith))
 
 -- cutting a line at the length of its content leaves the content
 pub content_take : (s : List ℕ) → take (length (without_crs s)) s ≡ without_crs s
@@ -80,3 +61,10 @@ pub content_short : (s : List ℕ) → length (without_crs s) ≤ length s
 unfolding without_crs
 content_short [] = omega arith
 content_short (x ∷ xs) = omega (arith, keep_short x (without_crs xs), content_short xs)
+
+-- the place behind the last byte that is no CR
+pub content_is : (s : List ℕ) (r : Option ℕ) → MatchOption r ((k : ℕ) → k < length s → get_or s k 0 ≡ 13)
+    (λ i. (i < length s) × (get_or s i 0 ≡ 13 → ⊥) × ((k : ℕ) → i < k → k < length s → get_or s k 0 ≡ 13))
+    → option_map_or (λ i. i + 1) r 0 ≡ length (without_crs s)
+content_is s None e = sym (ap length (none_kept s e))
+content_is s (Some i) e = sym (last_kept s i e.0 e.1 e.2)

@@ -6,7 +6,7 @@ ghost use Rattle.lines.specs.Lines.{piece_end, without_crs, kind_of};
 ghost use Rattle.lines.specs.Tokens.{tokens_of, is_null, is_kern, is_exclusive, is_star, is_empty};
 
 // What a line begins with.
-#[derive(Clone, Copy)]
+#[derive(Clone, Copy, PartialEq, Eq, Debug)]
 pub enum Kind {
     Empty,
     Reference,
@@ -20,55 +20,30 @@ pub enum Kind {
 pub fn content(line: &[u8]) -> usize
     ensures { (result ≡ length (without_crs line.now)) × (result ≤ length line.now) }
 {
-    let mut n = line.len();
-    while 0 < n {
-        let kept = line[n - 1] != 13;
-        if kept {
-            return n;
-        }
-        n -= 1;
-    }
-    0
-}
-
-// The index of the next b from `from` on, or the length.
-fn piece_end(s: &[u8], b: u8, from: usize) -> usize
-    ensures { result ≡ piece_end b s.now from }
-{
-    if s.len() < from {
-        return from;
-    }
-    from + slices::find(&s[from..], b)
-}
-
-// Whether a `!` stands at an index.
-fn is_remark(text: &[u8], from: usize) -> bool
-    ensures { result ≡ true → get_or text.now from 0 ≡ 33 }
-{
-    if text.len() <= from {
-        return false;
-    }
-    text[from] == b'!'
+    line.iter()
+        .rposition(|&x| x != b'\r')
+        .map_or(0, |last| last + 1)
 }
 
 // The index of the next LF from `from` on, or the length. Lines begun by `!` are long, and searched by blocks from the start.
 pub fn line_end(text: &[u8], from: usize) -> usize
     ensures { result ≡ piece_end 10 text.now from }
 {
-    if text.len() < from {
-        return from;
+    match text.get(from..) {
+        None => from,
+        Some(rest) if rest.starts_with(b"!") => from + search::find_from(rest, b'\n', 0),
+        Some(rest) => from + search::find_far(rest, b'\n'),
     }
-    if is_remark(text, from) {
-        return search::find_from(text, b'\n', from);
-    }
-    from + search::find_far(&text[from..], b'\n')
 }
 
 // The index of the next TAB from `from` on, or the length.
 pub fn token_end(line: &[u8], from: usize) -> usize
     ensures { result ≡ piece_end 9 line.now from }
 {
-    piece_end(line, b'\t', from)
+    match line.get(from..) {
+        None => from,
+        Some(rest) => from + slices::find(rest, b'\t'),
+    }
 }
 
 // How many tokens a line has.
@@ -82,41 +57,21 @@ pub fn token_count(line: &[u8]) -> usize
 pub fn line_kind(line: &[u8]) -> Kind
     ensures { result ≡ kind_of line.now }
 {
-    if line.len() == 0 {
-        return Kind::Empty;
+    match line {
+        [] => Kind::Empty,
+        [b'!', b'!', b'!', ..] => Kind::Reference,
+        [b'!', ..] => Kind::Comment,
+        [b'*', ..] => Kind::Star,
+        [b'=', ..] => Kind::Bar,
+        _ => Kind::Data,
     }
-    let first = line[0];
-    if first == b'*' {
-        return Kind::Star;
-    }
-    if first == b'=' {
-        return Kind::Bar;
-    }
-    if first != b'!' {
-        return Kind::Data;
-    }
-    if line.len() < 3 {
-        return Kind::Comment;
-    }
-    if line[1] != b'!' {
-        return Kind::Comment;
-    }
-    let bang = line[2] == b'!';
-    if bang {
-        return Kind::Reference;
-    }
-    Kind::Comment
 }
 
 // Whether a token is `.`.
 pub fn is_null(token: &[u8]) -> bool
     ensures { result ≡ is_null token.now }
 {
-    let other = token.len() != 1;
-    if other {
-        return false;
-    }
-    token[0] == b'.'
+    matches!(token, b".")
 }
 
 // Whether a token is `**kern`.
@@ -130,22 +85,19 @@ pub fn is_kern(token: &[u8]) -> bool
 pub fn is_exclusive(token: &[u8]) -> bool
     ensures { result ≡ is_exclusive token.now }
 {
-    slices::begins(token, b"**")
+    token.starts_with(b"**")
 }
 
 // Whether a token begins `*`.
 pub fn is_star(token: &[u8]) -> bool
     ensures { result ≡ is_star token.now }
 {
-    if token.len() == 0 {
-        return false;
-    }
-    token[0] == b'*'
+    token.starts_with(b"*")
 }
 
 // Whether a token has no byte.
 pub fn is_empty(token: &[u8]) -> bool
     ensures { result ≡ is_empty token.now }
 {
-    token.len() == 0
+    token.is_empty()
 }

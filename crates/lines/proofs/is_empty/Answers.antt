@@ -1,6 +1,7 @@
--- Whether a token has no byte: by its length.
+-- Whether a token has no byte.
+use borrow.Author.Rules.{rules}
 use Rattle.lines.proofs.TokenLaws.{empty_is}
 use Rattle.lines.proofs.is_empty.Goals as goal
 
 pub returns : goal.returns
-returns c = empty_is _
+returns c = search (rules, empty_is)

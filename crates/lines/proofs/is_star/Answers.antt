@@ -1,9 +1,10 @@
--- Whether a token begins `*`: by its first byte.
-use Rattle.lines.proofs.TokenLaws.{star_not, star_is}
+-- Whether a token begins `*`.
+use mathlib.Core.List.{[], ◌∷◌}
+use mathlib.Core.Path.{◌∙◌}
+use Rattle.slices.proofs.CompareLaws.{starts_begins}
+use Rattle.lines.specs.Tokens.{is_star}
 use Rattle.lines.proofs.is_star.Goals as goal
 
-pub returns-then-token-eq0 : goal.returns-then-token-eq0
-returns-then-token-eq0 c = star_not _ c.if-token-eq0.true
-
 pub returns : goal.returns
-returns c = star_is _ c.if-token-eq0.false
+unfolding is_star
+returns c = c.starts_with.ensures.value ∙ starts_begins (42 ∷ []) c.args.token.now

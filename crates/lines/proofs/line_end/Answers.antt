@@ -1,13 +1,7 @@
--- The end of the line from `from` on: a search of the rest of the text, or `from` itself past the end.
+-- The next piece's end: none behind the end of the text.
+use borrow.Author.Rules.{rules}
 use Rattle.lines.proofs.PieceLaws.{end_past}
-use Rattle.slices.proofs.PieceLaws.{rest}
 use Rattle.lines.proofs.line_end.Goals as goal
 
-pub returns-then-text-from : goal.returns-then-text-from
-returns-then-text-from c = end_past _ _ _ c.if-text-from.true
-
-pub returns-then-is_remark : goal.returns-then-is_remark
-returns-then-is_remark c = c.find_from.ensures.0
-
-pub returns : goal.returns
-returns c = rw (c.find_far.ensures.0, rest c.args.text.now c.args.from)
+pub returns-in-None : goal.returns-in-None
+returns-in-None c = search (rules, end_past)
