@@ -13,7 +13,9 @@ use Rattle.paths.specs.Row.{Spine, line, branch, outside}
 use Rattle.paths.specs.Token.{path_token}
 use Rattle.interpretation.specs.Interpretation.{interpretation_of}
 use Rattle.interpretation.specs.declared.Interpretation.{Interpretation}
-use Rattle.interpretation.specs.declared.Interpretation.TheVariants.{Nothing, Clef, Key, Meter, Symbol, Tempo, Name, ShortName, Mode, Notice}
+use Rattle.interpretation.specs.declared.Interpretation.TheVariants.{Nothing, Clef, Key, Meter, Symbol, Tempo, Name, ShortName, Mode}
+use Rattle.std.proofs.Common.{Ok, Err}
+use Rattle.interpretation.specs.Unsupported.{notice_number, Says}
 use Rattle.reference.specs.Reference.{reference_of}
 use Rattle.reference.specs.declared.Key.{Key as ReferenceKey}
 use Rattle.reference.specs.declared.Key.TheVariants.{Title, Composer, Lyricist, Other as OtherKey}
@@ -27,7 +29,7 @@ use Rattle.reading.specs.State.{Part, State, Result, part_at, fresh_part, with_n
 use Rattle.reading.specs.Notices.{Token, quiet, after, keep, notify, notify_signifiers, span_of_token}
 use Rattle.reading.specs.Bars.{any_noted}
 use Rattle.reading.specs.Header.{by_key, read_reference, notice_others}
-use Rattle.reading.specs.Star.{applied, interpret, column_by, paired, read_columns, first_tempo}
+use Rattle.reading.specs.Star.{applied, heeded, interpret, column_by, paired, read_columns, first_tempo}
 use Rattle.reading.specs.Records.{notice_repair}
 use Rattle.account.specs.Account.{Item, any_item}
 use Rattle.account.specs.Agree.{Agree, both_end, one_more}
@@ -152,20 +154,23 @@ module _ (st : State) (p : ℕ) where
   unfolding notes_of
   tempo_adds x bpm e = nothing st _ refl refl refl refl (set_noted st.parts p x (fresh_part p) e) (length-set st.parts p x)
 
-  applied_adds : (i : Interpretation) (k j : ℕ) (t : Token) → Adds st (applied i k j t p (part_at st p) st) []
-  applied_adds Nothing k j t = quiet_adds st
-  applied_adds (Clef clef) k j t = part_adds _ refl
-  applied_adds (Key fifths) k j t = part_adds _ refl
-  applied_adds (Meter n d) k j t = part_adds _ refl
-  applied_adds (Symbol s) k j t = part_adds _ refl
-  applied_adds (Tempo bpm) k j t = tempo_adds _ bpm refl
-  applied_adds Name k j t = part_adds _ refl
-  applied_adds ShortName k j t = part_adds _ refl
-  applied_adds (Mode mode) k j t = part_adds _ refl
-  applied_adds (Notice number) k j t = notify_adds number k j _ st
+  applied_adds : (i : Interpretation) (t : Token) → Adds st (applied i t p (part_at st p) st) []
+  applied_adds Nothing t = quiet_adds st
+  applied_adds (Clef clef) t = part_adds _ refl
+  applied_adds (Key fifths) t = part_adds _ refl
+  applied_adds (Meter n d) t = part_adds _ refl
+  applied_adds (Symbol s) t = part_adds _ refl
+  applied_adds (Tempo bpm) t = tempo_adds _ bpm refl
+  applied_adds Name t = part_adds _ refl
+  applied_adds ShortName t = part_adds _ refl
+  applied_adds (Mode mode) t = part_adds _ refl
+
+  heeded_adds : (says : Says) (k j : ℕ) (t : Token) → Adds st (heeded says k j t p (part_at st p) st) []
+  heeded_adds (Ok what) k j t = applied_adds what t
+  heeded_adds (Err why) k j t = notify_adds (notice_number why) k j _ st
 
 interpret_adds : (s : Spine) (k j : ℕ) (t : Token) (st : State) → Adds st (interpret s k j t st) []
-interpret_adds (line p v) k j t st = applied_adds st p (interpretation_of t.bytes (part_at st p).noted) k j t
+interpret_adds (line p v) k j t st = heeded_adds st p (interpretation_of t.bytes (part_at st p).noted) k j t
 interpret_adds (branch p) k j t st = quiet_adds st
 interpret_adds outside k j t st = quiet_adds st
 

@@ -7,7 +7,9 @@ use lib.ListN.{length}
 use Rattle.sheet.specs.Record.{records_bytes}
 use Rattle.interpretation.specs.Interpretation.{interpretation_of}
 use Rattle.interpretation.specs.declared.Interpretation.{Interpretation}
-use Rattle.interpretation.specs.declared.Interpretation.TheVariants.{Nothing, Clef, Key, Meter, Symbol, Tempo, Name, ShortName, Mode, Notice}
+use Rattle.interpretation.specs.declared.Interpretation.TheVariants.{Nothing, Clef, Key, Meter, Symbol, Tempo, Name, ShortName, Mode}
+use Rattle.std.proofs.Common.{Ok, Err}
+use Rattle.interpretation.specs.Unsupported.{notice_number, Says}
 use Rattle.paths.specs.declared.PathToken.{PathToken}
 use Rattle.paths.specs.declared.PathToken.TheVariants.{Split, Join, Exchange, End, Add, Other}
 use Rattle.paths.specs.Token.{path_token}
@@ -15,27 +17,30 @@ use Rattle.paths.specs.Row.{Spine, line, branch, outside}
 use Rattle.paths.specs.Voices.{Outcome, next, mixed, voiceless, wide, step_row}
 use Rattle.reading.specs.State.{Part, State, Result, part_at, with_part}
 use Rattle.reading.specs.Notices.{Token, span_of_token, quiet}
-use Rattle.reading.specs.Star.{applied, interpret, column_by, paired, read_columns, to_row, read_star}
+use Rattle.reading.specs.Star.{applied, heeded, interpret, column_by, paired, read_columns, to_row, read_star}
 use Rattle.extent.proofs.StateLaws.{Holds, After, Passes, quiet_holds, after_holds, notify_holds, part_holds}
 
 -- a part with something set
 set_holds : {b n : ℕ} (p : ℕ) (x : Part) (st : State) → x.noted ≡ (part_at st p).noted → Holds b n st → After b n (quiet (with_part st p x))
 set_holds p x st e h = quiet_holds (with_part st p x) (part_holds p x st e h)
 
-applied_holds : {b n : ℕ} (i : Interpretation) (k j : ℕ) (t : Token) (p : ℕ) (st : State) → Holds b n st → After b n (applied i k j t p (part_at st p) st)
-applied_holds Nothing k j t p st h = quiet_holds st h
-applied_holds (Clef clef) k j t p st h = set_holds p _ st refl h
-applied_holds (Key fifths) k j t p st h = set_holds p _ st refl h
-applied_holds (Meter n d) k j t p st h = set_holds p _ st refl h
-applied_holds (Symbol s) k j t p st h = set_holds p _ st refl h
-applied_holds (Tempo bpm) k j t p st h = set_holds p _ st refl h
-applied_holds Name k j t p st h = set_holds p _ st refl h
-applied_holds ShortName k j t p st h = set_holds p _ st refl h
-applied_holds (Mode mode) k j t p st h = set_holds p _ st refl h
-applied_holds (Notice number) k j t p st h = notify_holds number k j (span_of_token t) st h
+applied_holds : {b n : ℕ} (i : Interpretation) (t : Token) (p : ℕ) (st : State) → Holds b n st → After b n (applied i t p (part_at st p) st)
+applied_holds Nothing t p st h = quiet_holds st h
+applied_holds (Clef clef) t p st h = set_holds p _ st refl h
+applied_holds (Key fifths) t p st h = set_holds p _ st refl h
+applied_holds (Meter n d) t p st h = set_holds p _ st refl h
+applied_holds (Symbol s) t p st h = set_holds p _ st refl h
+applied_holds (Tempo bpm) t p st h = set_holds p _ st refl h
+applied_holds Name t p st h = set_holds p _ st refl h
+applied_holds ShortName t p st h = set_holds p _ st refl h
+applied_holds (Mode mode) t p st h = set_holds p _ st refl h
+
+heeded_holds : {b n : ℕ} (says : Says) (k j : ℕ) (t : Token) (p : ℕ) (st : State) → Holds b n st → After b n (heeded says k j t p (part_at st p) st)
+heeded_holds (Ok what) k j t p st h = applied_holds what t p st h
+heeded_holds (Err why) k j t p st h = notify_holds (notice_number why) k j (span_of_token t) st h
 
 interpret_holds : {b n : ℕ} (s : Spine) (k j : ℕ) (t : Token) (st : State) → Holds b n st → After b n (interpret s k j t st)
-interpret_holds (line p v) k j t st h = applied_holds (interpretation_of t.bytes (part_at st p).noted) k j t p st h
+interpret_holds (line p v) k j t st h = heeded_holds (interpretation_of t.bytes (part_at st p).noted) k j t p st h
 interpret_holds (branch p) k j t st h = quiet_holds st h
 interpret_holds outside k j t st h = quiet_holds st h
 

@@ -11,7 +11,16 @@ use Rattle.sheet.specs.Fits.{All, U8, U16, U32, SpanFits, BarFits}
 use Rattle.sheet.specs.declared.Bar.{Bar}
 use Rattle.interpretation.specs.Interpretation.{interpretation_of}
 use Rattle.interpretation.specs.declared.Interpretation.{Interpretation}
-use Rattle.interpretation.specs.declared.Interpretation.TheVariants.{Nothing, Clef, Key, Meter, Symbol, Tempo, Name, ShortName, Mode, Notice}
+use Rattle.interpretation.specs.declared.Interpretation.TheVariants.{Nothing, Clef, Key, Meter, Symbol, Tempo, Name, ShortName, Mode}
+use Rattle.interpretation.specs.Clef.{clef_number}
+use Rattle.interpretation.specs.Key.{mode_number}
+use Rattle.interpretation.specs.Meter.{symbol_number}
+use Rattle.std.proofs.Common.{Ok, Err, unsigned_abs}
+use Rattle.std.specs.Result.{MatchResult}
+use lib.IntN.{ℤ, pos, negsuc}
+use mir.Syntax.{w8}
+use mir.Val.{of_z}
+use Rattle.interpretation.specs.Unsupported.{notice_number, Says}
 use Rattle.interpretation.proofs.Ranges.{Ranged, ranged}
 use Rattle.paths.specs.declared.PathToken.{PathToken}
 use Rattle.paths.specs.declared.PathToken.TheVariants.{Split, Join, Exchange, End, Add, Other}
@@ -20,7 +29,7 @@ use Rattle.paths.specs.Row.{Spine, line, branch, outside}
 use Rattle.paths.specs.Voices.{Outcome, next, mixed, voiceless, wide, step_row}
 use Rattle.reading.specs.State.{Part, State, Result, part_at}
 use Rattle.reading.specs.Notices.{Token, span_of_token}
-use Rattle.reading.specs.Star.{with_clef, with_key, with_meter, with_symbol, with_bar_tempo, with_mode, barring, name_span, applied, interpret, column_by, paired, read_columns, to_row, read_star}
+use Rattle.reading.specs.Star.{with_clef, with_key, with_meter, with_symbol, with_bar_tempo, with_mode, barring, name_span, applied, heeded, interpret, column_by, paired, read_columns, to_row, read_star}
 use Rattle.fits.proofs.Each.{either}
 use Rattle.fits.proofs.Cuts.{TokenFits}
 use Rattle.fits.proofs.Rows.{SpineFits, NextFits, step_fits}
@@ -133,23 +142,27 @@ barring_good p b h g = record { named = g.named; name = g.name; short = g.short;
 name_fits : {t : Token} → TokenFits t → SpanFits (name_span t)
 name_fits {t} h = span_fits (t.at + 3) (length t.bytes - 3) (omega arith) (omega arith)
 
+fifths_fit : (z : ℤ) → unsigned_abs z ≤ 7 → U8 (of_z w8 z)
+fifths_fit (pos n) h = omega arith
+fifths_fit (negsuc n) h = omega arith
+
 plain_number : (m : ℕ) → (8 ≤ m) × (m ≤ 15) → U8 m × (eqb m 17 ≡ false)
 plain_number m h = (omega arith, ne_eqb m 17 (λ e. omega arith))
 
 module _ {n : ℕ} (k j : ℕ) (t : Token) (p : ℕ) (part : Part) (st : State) (l : U32 k) (c : U16 j) (f : TokenFits t) (h : PartGood part) (g : Good n st) where
-  fine_applied : (i : Interpretation) → Ranged i → Fine n (applied i k j t p part st)
+  fine_applied : (i : Interpretation) → Ranged i → Fine n (applied i t p part st)
   fine_applied Nothing r = fine_quiet g
   fine_applied (Clef clef) r =
-      fine_quiet (with_part_lem p (barring_good part (with_clef part.current clef) (clef_fits part.current h.current clef (omega arith)) h) g)
+      fine_quiet (with_part_lem p (barring_good part (with_clef part.current (clef_number clef)) (clef_fits part.current h.current (clef_number clef) (omega arith)) h) g)
   fine_applied (Key fifths) r =
       fine_quiet
       (with_part_lem p
-      (barring_good part (with_key part.current fifths part.mode) (key_fits part.current h.current fifths part.mode (omega arith) h.mode) h) g)
+      (barring_good part (with_key part.current (of_z w8 fifths) part.mode) (key_fits part.current h.current (of_z w8 fifths) part.mode (fifths_fit fifths r) h.mode) h) g)
   fine_applied (Meter x y) r =
       fine_quiet
       (with_part_lem p (barring_good part (with_meter part.current x y) (meter_fits part.current h.current x y (omega arith) (omega arith)) h) g)
   fine_applied (Symbol s) r =
-      fine_quiet (with_part_lem p (barring_good part (with_symbol part.current s) (symbol_fits part.current h.current s (omega arith)) h) g)
+      fine_quiet (with_part_lem p (barring_good part (with_symbol part.current (symbol_number s)) (symbol_fits part.current h.current (symbol_number s) (omega arith)) h) g)
   fine_applied (Tempo bpm) r =
       let s = with_part_lem p (barring_good part (with_bar_tempo part.current bpm) (tempo_fits part.current h.current bpm (omega arith)) h) g in
       fine_quiet (record {
@@ -188,15 +201,18 @@ module _ {n : ℕ} (k j : ℕ) (t : Token) (p : ℕ) (part : Part) (st : State) 
         name = h.name;
         short = h.short;
         mode = omega arith;
-        current = mode_fits part.current h.current mode (omega arith);
+        current = mode_fits part.current h.current (mode_number mode) (omega arith);
         first = h.first;
       }) g)
-  fine_applied (Notice number) r = fine_notify number k j (span_of_token t) (plain_number number r) l c (token_span f) g
+
+  fine_heeded : (says : Says) → MatchResult says Ranged (λ u. (8 ≤ notice_number u) × (notice_number u ≤ 15)) → Fine n (heeded says k j t p part st)
+  fine_heeded (Ok what) r = fine_applied what r
+  fine_heeded (Err why) r = fine_notify (notice_number why) k j (span_of_token t) (plain_number (notice_number why) r) l c (token_span f) g
 
 module _ {n : ℕ} (k j : ℕ) (t : Token) (st : State) (l : U32 k) (c : U16 j) (f : TokenFits t) (g : Good n st) where
   fine_interpret : (s : Spine) → SpineFits s → Fine n (interpret s k j t st)
   fine_interpret (line p v) h =
-      fine_applied k j t p (part_at st p) st l c f (part_good p h.0 g) g (interpretation_of t.bytes (part_at st p).noted)
+      fine_heeded k j t p (part_at st p) st l c f (part_good p h.0 g) g (interpretation_of t.bytes (part_at st p).noted)
       (ranged t.bytes (part_at st p).noted)
   fine_interpret (branch p) h = fine_quiet g
   fine_interpret outside h = fine_quiet g

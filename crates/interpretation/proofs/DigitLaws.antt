@@ -8,12 +8,11 @@ use mathlib.Core.Bool.{Bool, true, false, ◌&&◌, cond}
 use lib.Dec.{leb}
 use lib.ListN.{length, drop, get_or, drop_of_length-le}
 use borrow.Author.Tests.{leb-true, leb-false}
+use Rattle.std.proofs.Common.{Option, Some, None}
 use Rattle.slices.proofs.SplitLaws.{at_index}
 use Rattle.slices.proofs.TestLaws.{both}
 use Rattle.interpretation.specs.Digits.{is_digit, all_digits, decimal_on, decimal}
 use Rattle.interpretation.specs.Number.{number_up_to}
-use Rattle.interpretation.specs.declared.digits.Number.{Number}
-use Rattle.interpretation.specs.declared.digits.Number.TheVariants.{Is, Not}
 
 pub digit_bounds : (x : ℕ) → is_digit x ≡ true → (48 ≤ x) × (x ≤ 57)
 unfolding is_digit
@@ -68,11 +67,11 @@ module _ {s : List ℕ} {most n i : ℕ} (inv : Reading s most n i) where
             ∙ rw e;
       }
 
-  pub reading_not : i < length s → is_digit (get_or s i 0) ≡ false → Not ≡ number_up_to most s
+  pub reading_not : i < length s → is_digit (get_or s i 0) ≡ false → None ≡ number_up_to most s
   unfolding number_up_to
   reading_not h d = rw (digits_at h, d)
 
-  pub reading_past : length s ≤ i → Is n ≡ number_up_to most s
+  pub reading_past : length s ≤ i → Some n ≡ number_up_to most s
   unfolding number_up_to all_digits decimal_on
   reading_past h =
       let none : drop i s ≡ [] = drop_of_length-le s h in
@@ -81,18 +80,18 @@ module _ {s : List ℕ} {most n i : ℕ} (inv : Reading s most n i) where
       rw (d, v)
 
 -- what a number that was read says of its text
-pub number_not : (m : ℕ) (s : List ℕ) {r : Number} → r ≡ number_up_to m s → r ≡ Not → all_digits s ≡ false
+pub number_not : (m : ℕ) (s : List ℕ) {r : Option ℕ} → r ≡ number_up_to m s → r ≡ None → all_digits s ≡ false
 unfolding number_up_to
 number_not m s {r} e q = go (all_digits s) e
   where
-    go : (b : Bool) → r ≡ cond b (Is (min (decimal s) m)) Not → b ≡ false
+    go : (b : Bool) → r ≡ cond b (Some (min (decimal s) m)) None → b ≡ false
     go true p = cc
     go false p = refl
 
-pub number_is : (m : ℕ) (s : List ℕ) {r : Number} {n : ℕ} → r ≡ number_up_to m s → r ≡ Is n → (all_digits s ≡ true) × (n ≡ min (decimal s) m)
+pub number_is : (m : ℕ) (s : List ℕ) {r : Option ℕ} {n : ℕ} → r ≡ number_up_to m s → r ≡ Some n → (all_digits s ≡ true) × (n ≡ min (decimal s) m)
 unfolding number_up_to
 number_is m s {r} {n} e q = go (all_digits s) e
   where
-    go : (b : Bool) → r ≡ cond b (Is (min (decimal s) m)) Not → (b ≡ true) × (n ≡ min (decimal s) m)
+    go : (b : Bool) → r ≡ cond b (Some (min (decimal s) m)) None → (b ≡ true) × (n ≡ min (decimal s) m)
     go true p = (refl, cc)
     go false p = (cc, cc)

@@ -6,33 +6,24 @@ use native.Mathlib.Numerals.{add-one}
 use native.Mathlib.Omega.{arith}
 use mathlib.Core.List.{List, [], ◌∷◌, ◌++◌}
 use mathlib.Core.Bool.{Bool, true, false, ◌&&◌, cond, and-false}
-use lib.Dec.{leb, eqb, eqb→eq}
-use lib.ListN.{length, take, drop, get_or}
+use lib.Dec.{leb}
+use lib.ListN.{length, take, drop, drop_of_length-le}
+use lib.Seq.{take-length}
 use borrow.Author.Tests.{le-leb, lt-leb, leb-true, leb-false}
-use Rattle.slices.specs.Finite.{at}
+use Rattle.std.proofs.Common.{Some, None, Option, Ok, Err, Result}
 use Rattle.slices.specs.Split.{index_of}
+use Rattle.slices.proofs.PieceLaws.{rest}
 use Rattle.slices.proofs.TestLaws.{both}
 use Rattle.interpretation.proofs.DigitLaws.{digit_bounds, number_not, number_is}
 use Rattle.interpretation.specs.Digits.{is_digit, all_digits, decimal_on, decimal}
 use Rattle.interpretation.specs.Number.{number_up_to}
 use Rattle.interpretation.specs.Tempo.{rounded, tempo_from, tempo_of}
 use Rattle.interpretation.specs.declared.Interpretation.{Interpretation}
-use Rattle.interpretation.specs.declared.Interpretation.TheVariants.{Tempo, Notice}
-use Rattle.interpretation.specs.declared.digits.Number.{Number}
-use Rattle.interpretation.specs.declared.digits.Number.TheVariants.{Is, Not}
+use Rattle.interpretation.specs.declared.Interpretation.TheVariants.{Tempo}
+use Rattle.interpretation.specs.declared.Unsupported.{Unsupported}
+use Rattle.interpretation.specs.declared.Unsupported.TheVariants.{OtherTempo}
 
 -- ---- the powers of ten
-units : List ℕ
-units = 1 ∷ 10 ∷ 100 ∷ 1000 ∷ 10000 ∷ 100000 ∷ 1000000 ∷ 10000000 ∷ 100000000 ∷ 1000000000 ∷ []
-
-right : ℕ → ℕ → Bool
-right k x = eqb x (10 ^ k)
-
-pub unit_at : (k : ℕ) → k < 10
-    → get_or (1 ∷ 10 ∷ 100 ∷ 1000 ∷ 10000 ∷ 100000 ∷ 1000000 ∷ 10000000 ∷ 100000000 ∷ 1000000000 ∷ []) k 0 ≡ 10 ^ k
-unfolding units right
-unit_at k h = eqb→eq (get_or units k 0) (10 ^ k) (at right units tt k h)
-
 pub unit_bounds : (k : ℕ) → k ≤ 9 → (0 < 10 ^ k) × (10 ^ k ≤ 1000000000)
 unit_bounds k h =
     let ten : 0 < 10 = omega arith in
@@ -79,15 +70,15 @@ below_unit (x ∷ xs) h =
 
 -- ---- the range and the rounding
 module _ (n unit : ℕ) where
-  pub rounded_under : n < unit → Notice 14 ≡ rounded n unit
+  pub rounded_under : n < unit → Err OtherTempo ≡ rounded n unit
   unfolding rounded
   rounded_under h = rw (lt-leb _ _ h)
 
-  pub rounded_over : 65535 * unit < n → Notice 14 ≡ rounded n unit
+  pub rounded_over : 65535 * unit < n → Err OtherTempo ≡ rounded n unit
   unfolding rounded
   rounded_over h = let g : unit ≤ n = omega arith in rw (le-leb _ _ g, lt-leb _ _ h)
 
-  pub rounded_in : unit ≤ n → n ≤ 65535 * unit → Tempo ((2 * n + unit) / (2 * unit)) ≡ rounded n unit
+  pub rounded_in : unit ≤ n → n ≤ 65535 * unit → Ok (Tempo ((2 * n + unit) / (2 * unit))) ≡ rounded n unit
   unfolding rounded
   rounded_in g h = rw (le-leb _ _ g, le-leb _ _ h)
 
@@ -122,15 +113,15 @@ no_digit (x ∷ xs) h = absurd (omega arith)
 
 -- ---- the digits before and behind the point
 module _ (whole fraction : List ℕ) where
-  pub long_fraction : 9 < length fraction → Notice 14 ≡ tempo_from whole fraction
+  pub long_fraction : 9 < length fraction → Err OtherTempo ≡ tempo_from whole fraction
   unfolding tempo_from
   long_fraction h = rw (lt-leb _ _ h, and-false (all_digits (whole ++ fraction) && leb 1 (length (whole ++ fraction))))
 
-  pub whole_not : {r : Number} → r ≡ number_up_to 65536 whole → r ≡ Not → Notice 14 ≡ tempo_from whole fraction
+  pub whole_not : {r : Option ℕ} → r ≡ number_up_to 65536 whole → r ≡ None → Err OtherTempo ≡ tempo_from whole fraction
   unfolding tempo_from
   whole_not e n = rw (digits_append whole fraction, number_not 65536 whole e n)
 
-  pub fraction_not : {r : Number} → r ≡ number_up_to 1000000000 fraction → r ≡ Not → Notice 14 ≡ tempo_from whole fraction
+  pub fraction_not : {r : Option ℕ} → r ≡ number_up_to 1000000000 fraction → r ≡ None → Err OtherTempo ≡ tempo_from whole fraction
   unfolding tempo_from
   fraction_not e n = rw (digits_append whole fraction, number_not 1000000000 fraction e n, and-false (all_digits whole))
 
@@ -144,15 +135,15 @@ module _ (whole fraction : List ℕ) where
 
       go : (t : Bool) → leb 1 (length (whole ++ fraction)) ≡ t
           → rounded (decimal (whole ++ fraction)) (10 ^ length fraction)
-          ≡ cond (all_digits (whole ++ fraction) && leb 1 (length (whole ++ fraction)) && leb (length fraction) 9) (rounded (decimal (whole ++ fraction)) (10 ^ length fraction)) (Notice 14)
+          ≡ cond (all_digits (whole ++ fraction) && leb 1 (length (whole ++ fraction)) && leb (length fraction) 9) (rounded (decimal (whole ++ fraction)) (10 ^ length fraction)) (Err OtherTempo)
       go true e = rw (all_digits_lem, e, le-leb _ _ h)
       go false e =
           let none : decimal (whole ++ fraction) ≡ 0 = no_digit (whole ++ fraction) (leb-false 1 (length (whole ++ fraction)) e) in
           let low : decimal (whole ++ fraction) < 10 ^ length fraction = omega (arith, (unit_bounds (length fraction) h).0) in
           rw (all_digits_lem, e) (sym (rounded_under (decimal (whole ++ fraction)) (10 ^ length fraction) low))
 
-module _ (whole fraction : List ℕ) {r q : Number} {w f : ℕ} (e : r ≡ number_up_to 65536 whole) (i : r ≡ Is w)
-    (g : q ≡ number_up_to 1000000000 fraction) (j : q ≡ Is f) (h : length fraction ≤ 9) where
+module _ (whole fraction : List ℕ) {r q : Option ℕ} {w f : ℕ} (e : r ≡ number_up_to 65536 whole) (i : r ≡ Some w)
+    (g : q ≡ number_up_to 1000000000 fraction) (j : q ≡ Some f) (h : length fraction ≤ 9) where
   pub parts_fit : {unit : ℕ} → unit ≡ 10 ^ length fraction → (w * unit + f < 281474976710656) × (0 < unit) × (unit ≤ 1000000000)
   parts_fit {unit} u =
       let a = number_is 65536 whole e i in
@@ -163,7 +154,7 @@ module _ (whole fraction : List ℕ) {r q : Number} {w f : ℕ} (e : r ≡ numbe
       let m : w * unit ≤ 65536 * 1000000000 = mul-le-mul wide most in
       omega arith
 
-  pub tempo_by : {unit : ℕ} {s : Interpretation} → unit ≡ 10 ^ length fraction → s ≡ rounded (w * unit + f) unit → s ≡ tempo_from whole fraction
+  pub tempo_by : {unit : ℕ} {s : Result Interpretation Unsupported} → unit ≡ 10 ^ length fraction → s ≡ rounded (w * unit + f) unit → s ≡ tempo_from whole fraction
   tempo_by {unit} u s =
       let a = number_is 65536 whole e i in
       let b = number_is 1000000000 fraction g j in
@@ -175,8 +166,14 @@ module _ (whole fraction : List ℕ) {r q : Number} {w f : ℕ} (e : r ≡ numbe
       ∙ ap (λ (n : ℕ). rounded n (10 ^ length fraction)) (sym (decimal_append whole fraction))
       ∙ in_range whole fraction a.0 b.0 h)
 
--- the text cut at its first point
-pub tempo_cut : (s : List ℕ) {at : ℕ} {r : Interpretation} {rest : List ℕ} → (at ≡ index_of 46 s) × (at ≤ length s) → rest ≡ drop (at + 1) s
-    → r ≡ tempo_from (take at s) rest → r ≡ tempo_of s
+-- the text cut at its first point, or without one
+pub tempo_cut : (s : List ℕ) {at : ℕ} {r : Result Interpretation Unsupported} → (at ≡ index_of 46 s) × (at < length s)
+    → r ≡ tempo_from (take at s) (take (length s - (at + 1)) (drop (at + 1) s)) → r ≡ tempo_of s
 unfolding tempo_of
-tempo_cut s {at} found d e = e ∙ rw (d, add-one at, found.0)
+tempo_cut s {at} found e = e ∙ rw (rest s (at + 1), add-one at, found.0)
+
+pub tempo_whole : (s : List ℕ) {r : Result Interpretation Unsupported} → length s ≡ index_of 46 s → r ≡ tempo_from s [] → r ≡ tempo_of s
+unfolding tempo_of
+tempo_whole s h e =
+    let l : length s ≤ suc (length s) = omega arith in
+    e ∙ rw (← h, take-length s, drop_of_length-le s l)

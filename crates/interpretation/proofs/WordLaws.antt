@@ -1,47 +1,56 @@
--- The loop that looks for a text among words: the pieces from an index on, numbered on from n.
-use mathlib.Core.Path.{◌≡◌, sym, ap, ◌∙◌}
-use Prim.Native.Nat.{ℕ, ◌+◌, ◌-◌, ◌≤◌, ◌<◌}
-use native.Mathlib.Numerals.{add-one}
-use native.Mathlib.Omega.{arith}
-use mathlib.Core.List.{List}
-use mathlib.Core.Bool.{Bool, true, false, cond}
-use lib.ListN.{length, take, drop, length-drop}
+-- A text that is one of the words, by its length and its bytes, and a text that is none of them.
+use mathlib.Core.Path.{◌≡◌, refl, sym, ap, ◌∙◌, subst}
+use Prim.Native.Nat.{ℕ, suc}
+use mathlib.Core.List.{List, [], ◌∷◌}
+use mathlib.Core.Bool.{Bool, true, false}
+use lib.ListN.{length}
+use Rattle.std.proofs.Common.{None, Err, Result}
+use Rattle.std.proofs.lemmas.Slice.Eq.{HasBytesAt, text_from_reads}
 use Rattle.slices.specs.Compare.{same_bytes}
-use Rattle.slices.specs.Split.{split, pieces, index_of}
-use Rattle.slices.proofs.SplitLaws.{next_piece, no_piece, all_pieces}
-use Rattle.interpretation.specs.Words.{place_from, place_of}
+use Rattle.slices.proofs.CompareLaws.{same_is}
+use Rattle.interpretation.specs.Words.{named}
+use Rattle.interpretation.specs.declared.Interpretation.{Interpretation}
+use Rattle.interpretation.specs.declared.Unsupported.{Unsupported}
+use Rattle.interpretation.specs.declared.Unsupported.TheVariants.{OtherClef, OtherSymbol}
+use Rattle.interpretation.specs.Clef.{clefs, clef_of}
+use Rattle.interpretation.specs.Meter.{symbols, symbol_of}
 
-pub record Place (words s : List ℕ) (n from : ℕ) : Type 0 where
-  pub low : n ≤ from + 1
-  pub high : from ≤ length words + 1
-  pub same : place_of (split 47 words) s ≡ place_from n (pieces 47 from words) s
+-- s differs from each of the words
+abbrev pub Misses : {A : Type 0} → List ℕ → List (List ℕ × A) → Type 0
+Misses s [] = Unit {0}
+Misses s (w ∷ ws) = (length s ≡ length w.0 → HasBytesAt s 0 w.0 → ⊥) × Misses s ws
 
-pub place_first : {words s : List ℕ} → Place words s 1 0
-unfolding place_of
-place_first {words} {s} = record { low = omega arith; high = omega arith; same = ap (λ (ps : List (List ℕ)). place_from 1 ps s) (sym (all_pieces 47 words)) }
+-- a text has its own bytes
+behind : (p s : List ℕ) (x i : ℕ) → HasBytesAt s i p → HasBytesAt (x ∷ s) (suc i) p
+behind [] s x i h = tt
+behind (c ∷ p) s x i h = (h.0, behind p s x (suc i) h.1)
 
-module _ {words s : List ℕ} {n from : ℕ} (inv : Place words s n from) where
-  -- where the piece at `from` ends, t being the words from there on
-  pub place_end : {t : List ℕ} {r : ℕ} → from ≤ length words → t ≡ drop from words → (r ≡ index_of 47 t) × (r ≤ length t) → from + r ≤ length words
-  place_end h e f = omega (arith, ap length e, length-drop from words)
+reads_all : (p : List ℕ) → HasBytesAt p 0 p
+reads_all [] = tt
+reads_all (c ∷ p) = (refl, behind p p c 0 (reads_all p))
 
-  at_piece : {t : List ℕ} {r : ℕ} → from ≤ length words → t ≡ drop from words → (r ≡ index_of 47 t) × (r ≤ length t)
-      → place_of (split 47 words) s ≡ cond (same_bytes (take (from + r - from) (drop from words)) s) n (place_from (n + 1) (pieces 47 (from + r + 1) words) s)
-  unfolding place_from
-  at_piece {t} {r} h e f =
-      let at : from + r ≡ from + index_of 47 (drop from words) = ap (λ (k : ℕ). from + k) (f.0 ∙ ap (index_of 47) e) in
-      inv.same ∙ rw (next_piece 47 from (from + r) words h at, add-one n)
+miss : (p s : List ℕ) → (length s ≡ length p → HasBytesAt s 0 p → ⊥) → same_bytes p s ≡ false
+miss p s h = go (same_bytes p s) refl
+  where
+    go : (b : Bool) → same_bytes p s ≡ b → b ≡ false
+    go false e = refl
+    go true e = let q = same_is p s e in absurd (h (ap length q) (subst (λ (t : List ℕ). HasBytesAt t 0 p) (sym q) (reads_all p)))
 
-  pub place_turn : {t : List ℕ} {r : ℕ} {b : Bool} → from ≤ length words → t ≡ drop from words → (r ≡ index_of 47 t) × (r ≤ length t)
-      → b ≡ same_bytes (take (from + r - from) (drop from words)) s → b ≡ false → Place words s (n + 1) (from + r + 1)
-  place_turn h e f p q =
-      let le = place_end h e f in
-      record { low = omega arith; high = omega arith; same = at_piece h e f ∙ rw (sym p ∙ q) }
+pub unnamed : {A : Type 0} (ws : List (List ℕ × A)) (s : List ℕ) → Misses s ws → named ws s ≡ None
+unfolding named
+unnamed [] s h = refl
+unnamed (w ∷ ws) s h = rw (miss w.0 s h.0, unnamed ws s h.1)
 
-  pub place_here : {t : List ℕ} {r : ℕ} {b : Bool} → from ≤ length words → t ≡ drop from words → (r ≡ index_of 47 t) × (r ≤ length t)
-      → b ≡ same_bytes (take (from + r - from) (drop from words)) s → b ≡ true → n ≡ place_of (split 47 words) s
-  place_here h e f p q = sym (at_piece h e f ∙ rw (sym p ∙ q))
+pub other_clef : (s : List ℕ) → Misses s clefs → Err OtherClef ≡ clef_of s
+unfolding clef_of
+other_clef s h = rw (unnamed clefs s h)
 
-  pub place_past : length words < from → 0 ≡ place_of (split 47 words) s
-  unfolding place_from
-  place_past h = sym (inv.same ∙ ap (λ (ps : List (List ℕ)). place_from n ps s) (no_piece 47 from words h))
+pub other_symbol : (s : List ℕ) → Misses s symbols → Err OtherSymbol ≡ symbol_of s
+unfolding symbol_of
+other_symbol s h = rw (unnamed symbols s h)
+
+pub is_clef : (p s : List ℕ) {r : Result Interpretation Unsupported} → length s ≡ length p → HasBytesAt s 0 p → r ≡ clef_of p → r ≡ clef_of s
+is_clef p s l h e = e ∙ ap clef_of (sym (text_from_reads s p l h))
+
+pub is_symbol : (p s : List ℕ) {r : Result Interpretation Unsupported} → length s ≡ length p → HasBytesAt s 0 p → r ≡ symbol_of p → r ≡ symbol_of s
+is_symbol p s l h e = e ∙ ap symbol_of (sym (text_from_reads s p l h))

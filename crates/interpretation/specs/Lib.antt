@@ -2,6 +2,7 @@
 pub mod Digits
 pub mod Number
 pub mod Words
+pub mod Unsupported
 pub mod Clef
 pub mod Key
 pub mod Meter

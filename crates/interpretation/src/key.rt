@@ -1,71 +1,66 @@
 // Key signatures and key designations.
 ghost use Rattle.std.specs.Prelude.{◌≡◌};
-ghost use Rattle.interpretation.specs.Key.{signature_of, key_of, tonic_mode, mode_of};
+ghost use Rattle.interpretation.specs.Key.{signature_of, key_of, tonic_mode, mode_of, mode_number};
 
-use crate::Interpretation;
+use crate::{Interpretation, Unsupported};
+
+// The numbers are those of document 01's sheet.
+#[derive(Clone, Copy, PartialEq, Eq, Debug)]
+pub enum Mode {
+    Major = 0,
+    Minor = 1,
+}
+
+impl From<Mode> for u8 {
+    ghost from_gives = { λ m r. r ≡ mode_number m };
+
+    fn from(mode: Mode) -> u8 {
+        mode as u8
+    }
+}
 
 // The key signature that stands between the brackets: the first steps of one of two orders.
-fn signature(s: &[u8]) -> Interpretation
+fn signature(s: &[u8]) -> Result<Interpretation, Unsupported>
     ensures { result ≡ signature_of s.now }
 {
     if s.len() % 2 != 0 {
-        return Interpretation::Notice(11);
+        return Err(Unsupported::OtherKey);
     }
-    if slices::begins(b"f#c#g#d#a#e#b#", s) {
-        return Interpretation::Key((s.len() / 2) as u8);
+    if b"f#c#g#d#a#e#b#".starts_with(s) {
+        return Ok(Interpretation::Key((s.len() / 2) as i8));
     }
-    if slices::begins(b"b-e-a-d-g-c-f-", s) {
-        return Interpretation::Key((256 - s.len() / 2) as u8);
+    if b"b-e-a-d-g-c-f-".starts_with(s) {
+        return Ok(Interpretation::Key(-((s.len() / 2) as i8)));
     }
-    Interpretation::Notice(11)
+    Err(Unsupported::OtherKey)
 }
 
 // The key signature that the text behind `k[` gives.
-pub fn key_of(s: &[u8]) -> Interpretation
+pub fn key_of(s: &[u8]) -> Result<Interpretation, Unsupported>
     ensures { result ≡ key_of s.now }
 {
-    if s.len() == 0 {
-        return Interpretation::Notice(10);
-    }
-    let last = s.len() - 1;
-    if s[last] != b']' {
-        return Interpretation::Notice(10);
-    }
-    signature(&s[..last])
+    let steps = s.strip_suffix(b"]").ok_or(Unsupported::OpenKey)?;
+    signature(steps)
 }
 
 // The mode that a key designation gives: a tonic and a colon.
-pub fn mode_of(body: &[u8]) -> Interpretation
+pub fn mode_of(body: &[u8]) -> Result<Interpretation, Unsupported>
     ensures { result ≡ mode_of body.now }
 {
-    if body.len() < 2 {
-        return Interpretation::Notice(15);
+    match body {
+        [tonic, .., b':'] if body.len() <= 4 => tonic_mode(*tonic),
+        _ => Err(Unsupported::Other),
     }
-    if 4 < body.len() {
-        return Interpretation::Notice(15);
-    }
-    let last = body.len() - 1;
-    if body[last] != b':' {
-        return Interpretation::Notice(15);
-    }
-    tonic_mode(body[0])
 }
 
 // The mode that a tonic's first letter gives.
-fn tonic_mode(b: u8) -> Interpretation
+#[tactic(auto, unfolding(crate::specs::Key::tonic_mode))]
+fn tonic_mode(b: u8) -> Result<Interpretation, Unsupported>
     ensures { result ≡ tonic_mode b }
 {
-    if b < 65 {
-        return Interpretation::Notice(15);
+    match b {
+        b'A'..=b'G' => Ok(Interpretation::Mode(Mode::Major)),
+        b'a'..=b'g' => Ok(Interpretation::Mode(Mode::Minor)),
+        _ => Err(Unsupported::Other),
     }
-    if b <= 71 {
-        return Interpretation::Mode(0);
-    }
-    if b < 97 {
-        return Interpretation::Notice(15);
-    }
-    if b <= 103 {
-        return Interpretation::Mode(1);
-    }
-    Interpretation::Notice(15)
 }

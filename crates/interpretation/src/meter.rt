@@ -1,94 +1,76 @@
 // Meters and mensuration signs.
 ghost use Rattle.std.specs.Prelude.{◌≡◌};
 ghost use Rattle.interpretation.specs.Number.{byte_number};
-ghost use Rattle.interpretation.specs.Meter.{power_of_two, without_plus, meter_from, meter_of, symbol_of};
+ghost use Rattle.interpretation.specs.Meter.{without_plus, meter_from, meter_of, symbol_of, symbol_number};
 
-use crate::digits::Number;
-use crate::{Interpretation, digits, words};
+use crate::{Interpretation, Unsupported, digits};
 
-// The number that a text writes, where Rust reads it as a u8: one digit or more, 255 at most.
-fn byte_number(s: &[u8]) -> Number
-    ensures { result ≡ byte_number s.now }
-{
-    if s.len() == 0 {
-        return Number::Not;
-    }
-    match digits::number_up_to(s, 256) {
-        Number::Not => Number::Not,
-        Number::Is(n) => {
-            if 255 < n {
-                return Number::Not;
-            }
-            Number::Is(n)
-        }
+// The numbers are those of document 01's sheet.
+#[derive(Clone, Copy, PartialEq, Eq, Debug)]
+pub enum Symbol {
+    Common = 1,
+    Cut = 2,
+}
+
+impl From<Symbol> for u8 {
+    ghost from_gives = { λ s r. r ≡ symbol_number s };
+
+    fn from(symbol: Symbol) -> u8 {
+        symbol as u8
     }
 }
 
-// Whether a number is a power of two: one bit of it is set.
-fn power_of_two(n: u8) -> bool
-    ensures { result ≡ power_of_two n }
+// The number that a text writes, where Rust reads it as a u8: one digit or more, 255 at most.
+fn byte_number(s: &[u8]) -> Option<u8>
+    ensures { result ≡ byte_number s.now }
 {
-    u32::count_ones(n as u32) == 1
+    if s.is_empty() {
+        return None;
+    }
+    let n = digits::number_up_to(s, 256)?;
+    u8::try_from(n).ok()
 }
 
 // A text without the plus that Rust lets stand before a number.
 fn without_plus(s: &[u8]) -> &[u8]
     ensures { result.now ≡ without_plus s.now }
 {
-    if s.len() == 0 {
-        return s;
-    }
-    let plus = s[0] == b'+';
-    if plus {
-        return crate::tail(s, 1);
-    }
-    s
+    s.strip_prefix(b"+").unwrap_or(s)
 }
 
 // The meter of the texts before and behind the first `/`.
-fn meter_from(before: &[u8], behind: &[u8]) -> Interpretation
+fn meter_from(before: &[u8], behind: &[u8]) -> Result<Interpretation, Unsupported>
     ensures { result ≡ meter_from (byte_number before.now) (byte_number behind.now) }
 {
-    match byte_number(before) {
-        Number::Not => Interpretation::Notice(12),
-        Number::Is(n) => match byte_number(behind) {
-            Number::Not => Interpretation::Notice(12),
-            Number::Is(d) => {
-                let numerator = n as u8;
-                let denominator = d as u8;
-                if numerator == 0 {
-                    return Interpretation::Notice(12);
-                }
-                if power_of_two(denominator) {
-                    return Interpretation::Meter {
-                        numerator,
-                        denominator,
-                    };
-                }
-                Interpretation::Notice(12)
-            }
-        },
+    let numerator = byte_number(before).ok_or(Unsupported::OtherMeter)?;
+    let denominator = byte_number(behind).ok_or(Unsupported::OtherMeter)?;
+    if numerator == 0 || !denominator.is_power_of_two() {
+        return Err(Unsupported::OtherMeter);
     }
+    Ok(Interpretation::Meter {
+        numerator,
+        denominator,
+    })
 }
 
 // The meter that the text behind `M` gives.
-pub fn meter_of(s: &[u8]) -> Interpretation
+pub fn meter_of(s: &[u8]) -> Result<Interpretation, Unsupported>
     ensures { result ≡ meter_of s.now }
 {
-    let at = slices::find(s, b'/');
-    if at == s.len() {
-        return Interpretation::Notice(12);
-    }
-    meter_from(&s[..at], without_plus(crate::tail(s, at + 1)))
+    let at = s
+        .iter()
+        .position(|b| *b == b'/')
+        .ok_or(Unsupported::OtherMeter)?;
+    meter_from(&s[..at], without_plus(&s[at + 1..]))
 }
 
 // The sign that the text behind `met(` gives.
-pub fn symbol_of(s: &[u8]) -> Interpretation
+pub fn symbol_of(s: &[u8]) -> Result<Interpretation, Unsupported>
     ensures { result ≡ symbol_of s.now }
 {
-    let n = words::place(b"c)/c|)", s);
-    if n == 0 {
-        return Interpretation::Notice(13);
+    match s {
+        b"c)" => Ok(Interpretation::Symbol(Symbol::Common)),
+        b"c|)" => Ok(Interpretation::Symbol(Symbol::Cut)),
+        _ => Err(Unsupported::OtherSymbol),
     }
-    Interpretation::Symbol(n as u8)
 }

@@ -109,48 +109,50 @@ fn beams_of(tokens: &[u8]) {
 // I, J: an interpretation, with no note in the bar and after one.
 fn interpretation_of(token: &[u8], noted: bool) {
     match interpretation::interpret(token, noted) {
-        Interpretation::Nothing => {
+        Ok(Interpretation::Nothing) => {
             print(b"0");
         }
-        Interpretation::Clef(clef) => {
+        Ok(Interpretation::Clef(clef)) => {
             print(b"1");
-            next_number(clef as u64);
+            next_number(u64::from(u8::from(clef)));
         }
-        Interpretation::Key(fifths) => {
+        Ok(Interpretation::Key(fifths)) => {
             print(b"2");
-            next_number(fifths as u64);
+            next_number(u64::from(fifths.cast_unsigned()));
         }
-        Interpretation::Meter {
-            numerator,
-            denominator,
-        } => {
+        Ok(
+            Interpretation::Meter {
+                numerator,
+                denominator,
+            },
+        ) => {
             print(b"3");
-            next_number(numerator as u64);
-            next_number(denominator as u64);
+            next_number(u64::from(numerator));
+            next_number(u64::from(denominator));
         }
-        Interpretation::Symbol(symbol) => {
+        Ok(Interpretation::Symbol(symbol)) => {
             print(b"4");
-            next_number(symbol as u64);
+            next_number(u64::from(u8::from(symbol)));
         }
-        Interpretation::Tempo(tempo) => {
+        Ok(Interpretation::Tempo(tempo)) => {
             print(b"5");
-            next_number(tempo as u64);
+            next_number(u64::from(tempo));
         }
-        Interpretation::Name => {
+        Ok(Interpretation::Name) => {
             print(b"6 ");
             print(slices::piece(token, 3, token.len()));
         }
-        Interpretation::ShortName => {
+        Ok(Interpretation::ShortName) => {
             print(b"7 ");
             print(slices::piece(token, 3, token.len()));
         }
-        Interpretation::Mode(mode) => {
+        Ok(Interpretation::Mode(mode)) => {
             print(b"8");
-            next_number(mode as u64);
+            next_number(u64::from(u8::from(mode)));
         }
-        Interpretation::Notice(number) => {
+        Err(why) => {
             print(b"9");
-            next_number(number as u64);
+            next_number(u64::from(u8::from(why)));
         }
     }
 }

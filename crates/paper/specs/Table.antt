@@ -1,5 +1,5 @@
 -- Document 01, "Both edges, with P for proved": its worked lines, one table and one fact over it.
-use Rattle.std.specs.Prelude.{ℕ, Bool, true, false, cond, ◌&&◌, List, [], ◌∷◌, ◌++◌, map}
+use Rattle.std.specs.Prelude.{ℕ, Bool, true, false, cond, ◌&&◌, List, [], ◌∷◌, ◌++◌, map, Ok, Err}
 use Prim.Native.String.{String}
 use Rattle.slices.specs.Ascii.{ascii}
 use Rattle.slices.specs.Split.{split}
@@ -18,8 +18,8 @@ use Rattle.paths.specs.Voices.{Outcome, next, mixed, voiceless, wide, step_row}
 use Rattle.notation.specs.Beam.{beamed, beam_number, letters_of}
 use Rattle.notation.specs.declared.beam.Beamed.{Beamed}
 use Rattle.interpretation.specs.Interpretation.{interpretation_of}
-use Rattle.interpretation.specs.declared.Interpretation.{Interpretation}
-use Rattle.interpretation.specs.declared.Interpretation.TheVariants.{Nothing, Clef, Key, Meter, Symbol, Tempo, Name, ShortName, Mode, Notice}
+use Rattle.interpretation.specs.declared.Interpretation.TheVariants.{Nothing, Clef, Key, Meter, Symbol, Tempo, Name, ShortName, Mode}
+use Rattle.interpretation.specs.Unsupported.{Says}
 
 -- a line, with what it gives in document 01's numbers
 pub data Line : Type 0 where
@@ -66,17 +66,17 @@ of_outcome (wide n) = 9 ∷ n ∷ []
 abbrev of_beam : Beamed → List ℕ
 of_beam b = beam_number b.mark ∷ cond b.state.held 1 0 ∷ []
 
-abbrev of_tempo : Interpretation → List ℕ
-of_tempo Nothing = []
-of_tempo (Clef n) = []
-of_tempo (Key n) = []
-of_tempo (Meter n d) = []
-of_tempo (Symbol n) = []
-of_tempo (Tempo n) = n ∷ []
-of_tempo Name = []
-of_tempo ShortName = []
-of_tempo (Mode n) = []
-of_tempo (Notice n) = []
+abbrev of_tempo : Says → List ℕ
+of_tempo (Ok Nothing) = []
+of_tempo (Ok (Clef n)) = []
+of_tempo (Ok (Key n)) = []
+of_tempo (Ok (Meter n d)) = []
+of_tempo (Ok (Symbol n)) = []
+of_tempo (Ok (Tempo n)) = n ∷ []
+of_tempo (Ok Name) = []
+of_tempo (Ok ShortName) = []
+of_tempo (Ok (Mode n)) = []
+of_tempo (Err why) = []
 
 -- the tokens of a record written with blanks between them
 abbrev record_of : String → List PathToken

@@ -1,8 +1,13 @@
 -- Star records: interpretations column by column, then the next row.
-use Rattle.std.specs.Prelude.{ℕ, suc, ◌+◌, ◌-◌, Bool, true, false, cond, ◌||◌, List, [], ◌∷◌, map, eqb, length}
+use Rattle.std.specs.Prelude.{ℕ, suc, ◌+◌, ◌-◌, Bool, true, false, cond, ◌||◌, List, [], ◌∷◌, map, eqb, length, Ok, Err}
+use Rattle.std.specs.Int.{w8, cast_unsigned}
+use Rattle.interpretation.specs.Clef.{clef_number}
+use Rattle.interpretation.specs.Key.{mode_number}
+use Rattle.interpretation.specs.Meter.{symbol_number}
+use Rattle.interpretation.specs.Unsupported.{notice_number, Says}
 use Rattle.interpretation.specs.Interpretation.{interpretation_of}
 use Rattle.interpretation.specs.declared.Interpretation.{Interpretation}
-use Rattle.interpretation.specs.declared.Interpretation.TheVariants.{Nothing, Clef, Key, Meter, Symbol, Tempo, Name, ShortName, Mode, Notice}
+use Rattle.interpretation.specs.declared.Interpretation.TheVariants.{Nothing, Clef, Key, Meter, Symbol, Tempo, Name, ShortName, Mode}
 use Rattle.paths.specs.declared.PathToken.{PathToken}
 use Rattle.paths.specs.declared.PathToken.TheVariants.{Split, Join, Exchange, End, Add, Other}
 use Rattle.paths.specs.Token.{path_token}
@@ -171,21 +176,26 @@ first_tempo st bpm = with_tempo st (cond (eqb st.tempo 0) bpm st.tempo)
 abbrev pub name_span : Token → Span
 name_span t = span_of (t.at + 3) (length t.bytes - 3)
 
-abbrev pub applied : Interpretation → ℕ → ℕ → Token → ℕ → Part → State → Result
-applied Nothing k j t p part st = quiet st
-applied (Clef clef) k j t p part st = quiet (with_part st p (barring part (with_clef part.current clef)))
-applied (Key fifths) k j t p part st = quiet (with_part st p (barring part (with_key part.current fifths part.mode)))
-applied (Meter n d) k j t p part st = quiet (with_part st p (barring part (with_meter part.current n d)))
-applied (Symbol s) k j t p part st = quiet (with_part st p (barring part (with_symbol part.current s)))
-applied (Tempo bpm) k j t p part st = quiet (first_tempo (with_part st p (barring part (with_bar_tempo part.current bpm))) bpm)
-applied Name k j t p part st = quiet (with_part st p (naming part (name_span t)))
-applied ShortName k j t p part st = quiet (with_part st p (shortening part (name_span t)))
-applied (Mode mode) k j t p part st = quiet (with_part st p (moding part mode))
-applied (Notice number) k j t p part st = notify number k j (span_of_token t) st
+-- the numbers are those of the sheet, the fifths in two's complement
+abbrev pub applied : Interpretation → Token → ℕ → Part → State → Result
+applied Nothing t p part st = quiet st
+applied (Clef clef) t p part st = quiet (with_part st p (barring part (with_clef part.current (clef_number clef))))
+applied (Key fifths) t p part st = quiet (with_part st p (barring part (with_key part.current (cast_unsigned w8 fifths) part.mode)))
+applied (Meter n d) t p part st = quiet (with_part st p (barring part (with_meter part.current n d)))
+applied (Symbol s) t p part st = quiet (with_part st p (barring part (with_symbol part.current (symbol_number s))))
+applied (Tempo bpm) t p part st = quiet (first_tempo (with_part st p (barring part (with_bar_tempo part.current bpm))) bpm)
+applied Name t p part st = quiet (with_part st p (naming part (name_span t)))
+applied ShortName t p part st = quiet (with_part st p (shortening part (name_span t)))
+applied (Mode mode) t p part st = quiet (with_part st p (moding part (mode_number mode)))
+
+-- what a token in column j of line k comes to: it is applied, or its notice says why not
+abbrev pub heeded : Says → ℕ → ℕ → Token → ℕ → Part → State → Result
+heeded (Ok what) k j t p part st = applied what t p part st
+heeded (Err why) k j t p part st = notify (notice_number why) k j (span_of_token t) st
 
 -- an ordinary interpretation in column j of line k: nothing outside kern
 abbrev pub interpret : Spine → ℕ → ℕ → Token → State → Result
-interpret (line p v) k j t st = applied (interpretation_of t.bytes (part_at st p).noted) k j t p (part_at st p) st
+interpret (line p v) k j t st = heeded (interpretation_of t.bytes (part_at st p).noted) k j t p (part_at st p) st
 interpret (branch p) k j t st = quiet st
 interpret outside k j t st = quiet st
 

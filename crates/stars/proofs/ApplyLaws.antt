@@ -7,11 +7,14 @@ use mathlib.Core.List.{List, []}
 use lib.Dec.{eqb}
 use lib.ListN.{length, drop, set, get_or}
 use lib.Seq.{get_or-take, get_or-drop, set-get_or}
-use Rattle.state.proofs.CountLaws.{same, same_same}
+use Rattle.state.proofs.CountLaws.{same}
 use Rattle.state.specs.Counts.{Same}
 use Rattle.interpretation.specs.Interpretation.{interpretation_of}
 use Rattle.interpretation.specs.declared.Interpretation.{Interpretation}
-use Rattle.interpretation.specs.declared.Interpretation.TheVariants.{Nothing, Clef, Key, Meter, Symbol, Tempo, Name, ShortName, Mode, Notice}
+use Rattle.interpretation.specs.declared.Interpretation.TheVariants.{Nothing, Clef, Key, Meter, Symbol, Tempo, Name, ShortName, Mode}
+use Rattle.interpretation.specs.declared.Unsupported.{Unsupported}
+use Rattle.interpretation.specs.Unsupported.{notice_number, Says}
+use Rattle.std.proofs.Common.{Ok, Err}
 use Rattle.paths.specs.declared.PathToken.{PathToken}
 use Rattle.paths.specs.declared.PathToken.TheVariants.{Exchange}
 use Rattle.paths.specs.Token.{path_token}
@@ -21,8 +24,8 @@ use Rattle.sheet.specs.declared.Span.{Span}
 use Rattle.spines.specs.Cells.{spine_of}
 use Rattle.spines.proofs.CellLaws.{cell_outside, cell_line, cell_branch}
 use Rattle.reading.specs.State.{Part, State, Result, goes, fresh_part, part_at, with_parts}
-use Rattle.reading.specs.Notices.{Token, span_of_token, quiet, notify}
-use Rattle.reading.specs.Star.{applied, interpret, column_by, first_tempo}
+use Rattle.reading.specs.Notices.{Token, quiet, notify}
+use Rattle.reading.specs.Star.{applied, heeded, interpret, column_by, first_tempo}
 use Rattle.state.specs.declared.Tally.{Tally}
 use Rattle.state.specs.declared.Step.TheVariants.{Goes}
 use Rattle.state.specs.Lay.{laid, behind}
@@ -33,7 +36,7 @@ use Rattle.writing.specs.Kept.{notice_of, kept_records, after_kept}
 use Rattle.writing.proofs.KeptLaws.{notify_told, kept_same}
 use Rattle.tandem.specs.Change.{changed}
 use borrow.Author.Tests.{eq-eqb, ne_eqb}
-use Rattle.stars.specs.Columns.{token_of, with_first, tempoed, noticed, Comes, Fit}
+use Rattle.stars.specs.Columns.{token_of, with_first, tempoed, Comes, Fit}
 
 pub noted_is : (n p : ℕ) (s : List ℕ) → p < n → eqb (get_or s (p * 35 + 10) 0) 1 ≡ (get_or (parts_of n s) p (fresh_part p)).noted
 unfolding part_of
@@ -69,56 +72,72 @@ comes_notice {f} {parts} {out} {out'} {t} {r} number k column value w e = comes_
 -- ---- an interpretation in a line
 
 tempo_held : (w : Interpretation) (t : Tally) → Same t (tempoed w t)
+tempo_held (Tempo x) t = record { active = refl; parts = refl; bars = refl }
 tempo_held Nothing t = same t
 tempo_held (Clef x) t = same t
 tempo_held (Key x) t = same t
 tempo_held (Meter x y) t = same t
 tempo_held (Symbol x) t = same t
-tempo_held (Tempo x) t = record { active = refl; parts = refl; bars = refl }
 tempo_held Name t = same t
 tempo_held ShortName t = same t
 tempo_held (Mode x) t = same t
-tempo_held (Notice x) t = same t
 
--- the parts changed, the first tempo, the notice: what is applied
-by_what : (w : Interpretation) (k j p : ℕ) (tok : Token) (cells parts parts' out : List ℕ) (t : Tally)
+-- the parts changed and the first tempo: what is applied
+by_what : (w : Interpretation) (p : ℕ) (tok : Token) (cells parts parts' out : List ℕ) (t : Tally)
     → parts_of t.parts parts' ≡ set (parts_of t.parts parts) p (changed w (span_of (tok.at + 3) (length tok.bytes - 3)) (part_at (state_of cells parts t) p))
-    → landed (goes (noticed w k j (span_of_token tok) (state_of cells parts' (tempoed w t)))) out (tempoed w t).at
-    ≡ landed (goes (applied w k j tok p (part_at (state_of cells parts t) p) (state_of cells parts t))) out t.at
-by_what Nothing k j p tok cells parts parts' out t e =
+    → told (Goes (tempoed w t)) cells parts' out ≡ landed (goes (applied w tok p (part_at (state_of cells parts t) p) (state_of cells parts t))) out t.at
+unfolding behind laid
+by_what Nothing p tok cells parts parts' out t e =
     ap (λ (ps : List Part). landed (goes (quiet (with_parts (state_of cells parts t) ps))) out t.at)
     (e ∙ set-get_or (parts_of t.parts parts) p (fresh_part p))
-by_what (Clef x) k j p tok cells parts parts' out t e = ap (λ (ps : List Part). landed (goes (quiet (with_parts (state_of cells parts t) ps))) out t.at) e
-by_what (Key x) k j p tok cells parts parts' out t e = ap (λ (ps : List Part). landed (goes (quiet (with_parts (state_of cells parts t) ps))) out t.at) e
-by_what (Meter x y) k j p tok cells parts parts' out t e = ap (λ (ps : List Part). landed (goes (quiet (with_parts (state_of cells parts t) ps))) out t.at) e
-by_what (Symbol x) k j p tok cells parts parts' out t e = ap (λ (ps : List Part). landed (goes (quiet (with_parts (state_of cells parts t) ps))) out t.at) e
-by_what (Tempo x) k j p tok cells parts parts' out t e =
+by_what (Clef x) p tok cells parts parts' out t e = ap (λ (ps : List Part). landed (goes (quiet (with_parts (state_of cells parts t) ps))) out t.at) e
+by_what (Key x) p tok cells parts parts' out t e = ap (λ (ps : List Part). landed (goes (quiet (with_parts (state_of cells parts t) ps))) out t.at) e
+by_what (Meter x y) p tok cells parts parts' out t e = ap (λ (ps : List Part). landed (goes (quiet (with_parts (state_of cells parts t) ps))) out t.at) e
+by_what (Symbol x) p tok cells parts parts' out t e = ap (λ (ps : List Part). landed (goes (quiet (with_parts (state_of cells parts t) ps))) out t.at) e
+by_what (Tempo x) p tok cells parts parts' out t e =
     ap (λ (ps : List Part). landed (goes (quiet (first_tempo (with_parts (state_of cells parts t) ps) x))) out t.at) e
-by_what Name k j p tok cells parts parts' out t e = ap (λ (ps : List Part). landed (goes (quiet (with_parts (state_of cells parts t) ps))) out t.at) e
-by_what ShortName k j p tok cells parts parts' out t e = ap (λ (ps : List Part). landed (goes (quiet (with_parts (state_of cells parts t) ps))) out t.at) e
-by_what (Mode x) k j p tok cells parts parts' out t e = ap (λ (ps : List Part). landed (goes (quiet (with_parts (state_of cells parts t) ps))) out t.at) e
-by_what (Notice x) k j p tok cells parts parts' out t e =
-    ap (λ (ps : List Part). landed (goes (notify x k j (span_of_token tok) (with_parts (state_of cells parts t) ps))) out t.at)
-    (e ∙ set-get_or (parts_of t.parts parts) p (fresh_part p))
+by_what Name p tok cells parts parts' out t e = ap (λ (ps : List Part). landed (goes (quiet (with_parts (state_of cells parts t) ps))) out t.at) e
+by_what ShortName p tok cells parts parts' out t e = ap (λ (ps : List Part). landed (goes (quiet (with_parts (state_of cells parts t) ps))) out t.at) e
+by_what (Mode x) p tok cells parts parts' out t e = ap (λ (ps : List Part). landed (goes (quiet (with_parts (state_of cells parts t) ps))) out t.at) e
 
-pub apply_comes : (bytes : List ℕ) (p k j at : ℕ) {parts parts' out out' : List ℕ} {tally t r : Tally} {what : Interpretation} {noted : Bool}
-    → p < tally.parts → tally.parts ≤ 256
-    → ((n : ℕ) → p < n → noted ≡ (get_or (parts_of n parts) p (fresh_part p)).noted)
-    → what ≡ interpretation_of bytes noted
-    → ((n : ℕ) → n ≤ 256 → p < n → parts_of n parts' ≡ set (parts_of n parts) p (changed what (span_of (at + 3) (length bytes - 3)) (get_or (parts_of n parts) p (fresh_part p))))
-    → t ≡ tempoed what tally
-    → ((ps : List ℕ) → Comes (noticed what k j (span_of at (length bytes))) ps out t ps out' r)
-    → Comes (interpret (line p 0) k j (token_of at bytes)) parts out tally parts' out' r
-apply_comes bytes p k j at {parts} {parts'} {out} {out'} {tally} {t} {r} {what} {noted} low top n w c f g =
-    record {
-      same = λ (cells : List ℕ).
-          (g parts').same cells
-          ∙ ap (λ (x : Tally). landed (goes (noticed what k j (span_of at (length bytes)) (state_of cells parts' x))) out x.at) f
-          ∙ by_what what k j p (token_of at bytes) cells parts parts' out tally (c tally.parts top low)
-          ∙ ap (λ (x : Interpretation). landed (goes (applied x k j (token_of at bytes) p (part_at (state_of cells parts tally) p) (state_of cells parts tally))) out tally.at)
-          (w ∙ ap (interpretation_of bytes) (n tally.parts low));
-      held = same_same (subst (Same tally) (sym f) (tempo_held what tally)) (g parts').held;
-    }
+-- what the token says, by the state before it
+module _ (bytes : List ℕ) (p k j at : ℕ) (parts : List ℕ) (tally : Tally) {says : Says} {noted : Bool}
+    (low : p < tally.parts) (top : tally.parts ≤ 256)
+    (n : (n : ℕ) → p < n → noted ≡ (get_or (parts_of n parts) p (fresh_part p)).noted)
+    (w : says ≡ interpretation_of bytes noted) where
+  heeded_is : (cells : List ℕ) → heeded says k j (token_of at bytes) p (part_at (state_of cells parts tally) p) (state_of cells parts tally)
+      ≡ interpret (line p 0) k j (token_of at bytes) (state_of cells parts tally)
+  heeded_is cells =
+      ap (λ (x : Says). heeded x k j (token_of at bytes) p (part_at (state_of cells parts tally) p) (state_of cells parts tally))
+      (w ∙ ap (interpretation_of bytes) (n tally.parts low))
+
+  pub apply_comes : {parts' out : List ℕ} {t : Tally} {what : Interpretation} → says ≡ Ok what
+      → ((n : ℕ) → n ≤ 256 → p < n → parts_of n parts' ≡ set (parts_of n parts) p (changed what (span_of (at + 3) (length bytes - 3)) (get_or (parts_of n parts) p (fresh_part p))))
+      → t ≡ tempoed what tally
+      → Comes (interpret (line p 0) k j (token_of at bytes)) parts out tally parts' out t
+  apply_comes {parts'} {out} {t} {what} o c f =
+      record {
+        same = λ (cells : List ℕ).
+            ap (λ (x : Tally). told (Goes x) cells parts' out) f
+            ∙ by_what what p (token_of at bytes) cells parts parts' out tally (c tally.parts top low)
+            ∙ ap (λ (x : Says). landed (goes (heeded x k j (token_of at bytes) p (part_at (state_of cells parts tally) p) (state_of cells parts tally))) out tally.at) (sym o)
+            ∙ ap (λ (r : Result). landed (goes r) out tally.at) (heeded_is cells);
+        held = subst (Same tally) (sym f) (tempo_held what tally);
+      }
+
+  pub notice_comes : {out out' : List ℕ} {r : Tally} {why : Unsupported} {number : ℕ} → says ≡ Err why → number ≡ notice_number why
+      → (out' ≡ laid out tally.at (kept_records tally (notice_of number k j (span_of at (length bytes))) [])) × (r ≡ after_kept tally (notice_of number k j (span_of at (length bytes))) [])
+      → Comes (interpret (line p 0) k j (token_of at bytes)) parts out tally parts out' r
+  notice_comes {out} {out'} {r} {why} {number} o e q =
+      let noticed = comes_notice {f = notify number k j (span_of at (length bytes))} number k j (span_of at (length bytes)) q (λ (st : State). refl) in
+      record {
+        same = λ (cells : List ℕ).
+            noticed.same cells
+            ∙ ap (λ (x : ℕ). landed (goes (notify x k j (span_of at (length bytes)) (state_of cells parts tally))) out tally.at) e
+            ∙ ap (λ (x : Says). landed (goes (heeded x k j (token_of at bytes) p (part_at (state_of cells parts tally) p) (state_of cells parts tally))) out tally.at) (sym o)
+            ∙ ap (λ (r : Result). landed (goes r) out tally.at) (heeded_is cells);
+        held = noticed.held;
+      }
 
 -- ---- by the column's cell
 
@@ -147,18 +166,6 @@ module _ (bytes : List ℕ) (b : Bool) (s : Spine) (k j : ℕ) (tok : Token) {m 
   by_pair q e st = by_token q st ∙ ap (λ (x : Bool). column_by Exchange x s k j tok st) e
 
 -- ---- the ways out of the code
-
-pub tempo_as : {w x : Interpretation} (t : Tally) {r : Tally} → w ≡ x → r ≡ tempoed x t → r ≡ tempoed w t
-tempo_as t e h = h ∙ ap (λ (y : Interpretation). tempoed y t) (sym e)
-
-pub no_notice : {w x : Interpretation} (k j : ℕ) (v : Span) → w ≡ x → ((st : State) → noticed x k j v st ≡ quiet st) → {out : List ℕ} {t : Tally} (parts : List ℕ)
-    → Comes (noticed w k j v) parts out t parts out t
-no_notice k j v e h parts = comes_quiet (λ (st : State). ap (λ (y : Interpretation). noticed y k j v st) e ∙ h st)
-
-pub a_notice : {w : Interpretation} {n : ℕ} (k j : ℕ) (v : Span) → w ≡ Notice n → {out out' : List ℕ} {t r : Tally}
-    → (out' ≡ laid out t.at (kept_records t (notice_of n k j v) [])) × (r ≡ after_kept t (notice_of n k j v) []) → (parts : List ℕ)
-    → Comes (noticed w k j v) parts out t parts out' r
-a_notice {n} k j v e q parts = comes_notice n k j v q (λ (st : State). ap (λ (y : Interpretation). noticed y k j v st) e)
 
 -- the first tempo
 abbrev anew : Tally → ℕ → Tally

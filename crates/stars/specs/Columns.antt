@@ -6,11 +6,10 @@ use Rattle.lines.specs.Tokens.{tokens_of}
 use Rattle.paths.specs.Row.{line}
 use Rattle.paths.specs.Token.{path_token}
 use Rattle.interpretation.specs.declared.Interpretation.{Interpretation}
-use Rattle.interpretation.specs.declared.Interpretation.TheVariants.{Nothing, Clef, Key, Meter, Symbol, Tempo, Name, ShortName, Mode, Notice}
-use Rattle.sheet.specs.declared.Span.{Span}
+use Rattle.interpretation.specs.declared.Interpretation.TheVariants.{Tempo}
 use Rattle.spines.specs.Cells.{spine_of, row_of}
 use Rattle.reading.specs.State.{State, Result, goes}
-use Rattle.reading.specs.Notices.{Token, placed, quiet, notify}
+use Rattle.reading.specs.Notices.{Token, placed}
 use Rattle.reading.specs.Star.{read_columns}
 use Rattle.state.specs.declared.Tally.{Tally}
 use Rattle.state.specs.declared.Step.TheVariants.{Goes}
@@ -45,29 +44,8 @@ with_first t bpm = record {
 }
 
 abbrev pub tempoed : Interpretation → Tally → Tally
-tempoed Nothing t = t
-tempoed (Clef clef) t = t
-tempoed (Key fifths) t = t
-tempoed (Meter n d) t = t
-tempoed (Symbol s) t = t
 tempoed (Tempo bpm) t = with_first t bpm
-tempoed Name t = t
-tempoed ShortName t = t
-tempoed (Mode mode) t = t
-tempoed (Notice n) t = t
-
--- the notice that an interpretation gives
-abbrev pub noticed : Interpretation → ℕ → ℕ → Span → State → Result
-noticed Nothing k j v st = quiet st
-noticed (Clef clef) k j v st = quiet st
-noticed (Key fifths) k j v st = quiet st
-noticed (Meter n d) k j v st = quiet st
-noticed (Symbol s) k j v st = quiet st
-noticed (Tempo bpm) k j v st = quiet st
-noticed Name k j v st = quiet st
-noticed ShortName k j v st = quiet st
-noticed (Mode mode) k j v st = quiet st
-noticed (Notice n) k j v st = notify n k j v st
+tempoed _ t = t
 
 -- from parts, buffer and counts to others the code has done what a piece of the reading does, whatever the row
 pub record Comes (f : State → Result) (parts out : List ℕ) (t : Tally) (parts' out' : List ℕ) (r : Tally) : Type 0 where

@@ -18,7 +18,7 @@ ghost use Rattle.state.specs.Parts.{parts_of};
 ghost use Rattle.state.specs.View.{state_of, landed, told, told_row};
 ghost use Rattle.state.specs.declared.Step.TheVariants.{Goes};
 ghost use Rattle.state.specs.Ready.{Ready};
-ghost use Rattle.stars.specs.Columns.{filled, token_of, columns_of, with_first, tempoed, noticed, Comes, Fit};
+ghost use Rattle.stars.specs.Columns.{filled, token_of, columns_of, with_first, tempoed, Comes, Fit};
 ghost use Rattle.stars.specs.Next.{stepped};
 
 use interpretation::Interpretation;
@@ -45,48 +45,8 @@ fn first_tempo(tally: Tally, what: Interpretation) -> Tally
     ensures { result ≡ tempoed what tally }
 {
     match what {
-        Interpretation::Nothing => tally,
-        Interpretation::Clef(_) => tally,
-        Interpretation::Key(_) => tally,
-        Interpretation::Meter {
-            numerator: _,
-            denominator: _,
-        } => tally,
-        Interpretation::Symbol(_) => tally,
         Interpretation::Tempo(bpm) => with_first(tally, bpm),
-        Interpretation::Name => tally,
-        Interpretation::ShortName => tally,
-        Interpretation::Mode(_) => tally,
-        Interpretation::Notice(_) => tally,
-    }
-}
-
-// The notice of an interpretation that gives one.
-fn give_notice(
-    out: &mut [u8],
-    tally: Tally,
-    what: Interpretation,
-    number: u32,
-    column: u16,
-    at: u32,
-    len: u32,
-) -> Tally
-    ensures { (parts : List ℕ) → Comes (noticed what number column (span_of at len)) parts out.old tally parts out.new result }
-{
-    match what {
-        Interpretation::Nothing => tally,
-        Interpretation::Clef(_) => tally,
-        Interpretation::Key(_) => tally,
-        Interpretation::Meter {
-            numerator: _,
-            denominator: _,
-        } => tally,
-        Interpretation::Symbol(_) => tally,
-        Interpretation::Tempo(_) => tally,
-        Interpretation::Name => tally,
-        Interpretation::ShortName => tally,
-        Interpretation::Mode(_) => tally,
-        Interpretation::Notice(n) => writing::notify(out, tally, n, number, column, Span { at, len }),
+        _ => tally,
     }
 }
 
@@ -113,11 +73,21 @@ fn apply(
     ensures { Comes (interpret (line p 0) number column (token_of offset token.now)) parts.old out.old tally parts.new out.new result }
 {
     let noted = is_noted(parts, p);
-    let what = interpretation::interpret(token, noted);
     let len = token.len() as u32;
-    tandem::change_part(parts, p, what, offset, len);
-    let t = first_tempo(tally, what);
-    give_notice(out, t, what, number, column, offset, len)
+    match interpretation::interpret(token, noted) {
+        Ok(what) => {
+            tandem::change_part(parts, p, what, offset, len);
+            first_tempo(tally, what)
+        }
+        Err(why) => writing::notify(
+            out,
+            tally,
+            u8::from(why),
+            number,
+            column,
+            Span { at: offset, len },
+        ),
+    }
 }
 
 // An ordinary interpretation in a column of that cell: nothing outside kern.

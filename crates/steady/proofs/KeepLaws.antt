@@ -9,7 +9,9 @@ use Rattle.lines.specs.Tokens.{is_null, is_kern}
 use Rattle.notation.specs.Barline.{barlines_of, barline_number}
 use Rattle.interpretation.specs.Interpretation.{interpretation_of}
 use Rattle.interpretation.specs.declared.Interpretation.{Interpretation}
-use Rattle.interpretation.specs.declared.Interpretation.TheVariants.{Nothing, Clef, Key, Meter, Symbol, Tempo, Name, ShortName, Mode, Notice}
+use Rattle.interpretation.specs.declared.Interpretation.TheVariants.{Nothing, Clef, Key, Meter, Symbol, Tempo, Name, ShortName, Mode}
+use Rattle.std.proofs.Common.{Ok, Err}
+use Rattle.interpretation.specs.Unsupported.{notice_number, Says}
 use Rattle.reference.specs.Reference.{reference_of}
 use Rattle.reference.specs.declared.Key.{Key as Named}
 use Rattle.reference.specs.declared.Key.TheVariants.{Title, Composer, Lyricist, Other as OtherKey}
@@ -27,7 +29,7 @@ use Rattle.sheet.specs.declared.Span.{Span}
 use Rattle.reading.specs.State.{Part, State, Result, Step, refused, goes, ends, part_at, with_part, with_parts, with_notes, with_notices}
 use Rattle.reading.specs.Notices.{Token, span_of_token, quiet, after, keep, notify, notify_signifiers}
 use Rattle.reading.specs.Header.{by_key, key_span, value_span, read_reference, notice_others}
-use Rattle.reading.specs.Star.{applied, interpret, column_by, paired, read_columns}
+use Rattle.reading.specs.Star.{applied, heeded, interpret, column_by, paired, read_columns}
 use Rattle.reading.specs.Bars.{any_noted, closed_part, closing, left_anew, keep_left, deciding, close_with, read_bar, is_kern_spine}
 use Rattle.reading.specs.Notes.{sounded, note_record, add_note, behind, and_then, by_outcome, signify, inferred_for, read_token_at, read_spine, read_tokens, read_data}
 use Rattle.extent.proofs.StateLaws.{either}
@@ -82,21 +84,25 @@ others_are {row} {n} k j (t ∷ ts) st h =
     (others_are k (suc j) ts r.state (notify_is 2 k j (span_of_token t) st h))
 
 -- ---- star records, column by column
-applied_is : {row : List Spine} {n : ℕ} (i : Interpretation) (k j : ℕ) (t : Token) (p : ℕ) (st : State) → Is row n st
-    → Is row n (applied i k j t p (part_at st p) st).state
-applied_is Nothing k j t p st h = h
-applied_is (Clef clef) k j t p st h = part_is p _ st h
-applied_is (Key fifths) k j t p st h = part_is p _ st h
-applied_is (Meter n d) k j t p st h = part_is p _ st h
-applied_is (Symbol s) k j t p st h = part_is p _ st h
-applied_is (Tempo bpm) k j t p st h = part_is p _ st h
-applied_is Name k j t p st h = part_is p _ st h
-applied_is ShortName k j t p st h = part_is p _ st h
-applied_is (Mode mode) k j t p st h = part_is p _ st h
-applied_is (Notice number) k j t p st h = notify_is number k j (span_of_token t) st h
+applied_is : {row : List Spine} {n : ℕ} (i : Interpretation) (t : Token) (p : ℕ) (st : State) → Is row n st
+    → Is row n (applied i t p (part_at st p) st).state
+applied_is Nothing t p st h = h
+applied_is (Clef clef) t p st h = part_is p _ st h
+applied_is (Key fifths) t p st h = part_is p _ st h
+applied_is (Meter n d) t p st h = part_is p _ st h
+applied_is (Symbol s) t p st h = part_is p _ st h
+applied_is (Tempo bpm) t p st h = part_is p _ st h
+applied_is Name t p st h = part_is p _ st h
+applied_is ShortName t p st h = part_is p _ st h
+applied_is (Mode mode) t p st h = part_is p _ st h
+
+heeded_is : {row : List Spine} {n : ℕ} (says : Says) (k j : ℕ) (t : Token) (p : ℕ) (st : State) → Is row n st
+    → Is row n (heeded says k j t p (part_at st p) st).state
+heeded_is (Ok what) k j t p st h = applied_is what t p st h
+heeded_is (Err why) k j t p st h = notify_is (notice_number why) k j (span_of_token t) st h
 
 interpret_is : {row : List Spine} {n : ℕ} (s : Spine) (k j : ℕ) (t : Token) (st : State) → Is row n st → Is row n (interpret s k j t st).state
-interpret_is (line p v) k j t st h = applied_is (interpretation_of t.bytes (part_at st p).noted) k j t p st h
+interpret_is (line p v) k j t st h = heeded_is (interpretation_of t.bytes (part_at st p).noted) k j t p st h
 interpret_is (branch p) k j t st h = h
 interpret_is outside k j t st h = h
 

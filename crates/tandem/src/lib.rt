@@ -110,13 +110,13 @@ fn change(cells: &mut [u32], what: Interpretation, at: u32, len: u32)
 {
     match what {
         Interpretation::Nothing => {}
-        Interpretation::Clef(clef) => set_clef(cells, clef),
-        Interpretation::Key(fifths) => set_key(cells, fifths),
+        Interpretation::Clef(clef) => set_clef(cells, u8::from(clef)),
+        Interpretation::Key(fifths) => set_key(cells, fifths.cast_unsigned()),
         Interpretation::Meter {
             numerator,
             denominator,
         } => set_meter(cells, numerator, denominator),
-        Interpretation::Symbol(symbol) => set_symbol(cells, symbol),
+        Interpretation::Symbol(symbol) => set_symbol(cells, u8::from(symbol)),
         Interpretation::Tempo(bpm) => set_tempo(cells, bpm),
         Interpretation::Name => {
             let name = name_span(at, len);
@@ -126,8 +126,7 @@ fn change(cells: &mut [u32], what: Interpretation, at: u32, len: u32)
             let short = name_span(at, len);
             set_short(cells, short);
         }
-        Interpretation::Mode(mode) => set_mode(cells, mode),
-        Interpretation::Notice(_) => {}
+        Interpretation::Mode(mode) => set_mode(cells, u8::from(mode)),
     }
 }
 

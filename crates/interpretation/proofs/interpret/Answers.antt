@@ -1,15 +1,18 @@
--- `interpret` meets its contract, by the tests that led to each answer.
-use Rattle.interpretation.proofs.MarkLaws.{says_nothing, says_first, says_late, says_after}
+-- A star alone, an attribute after a note, or what the text behind the star says.
+use borrow.Author.Rules.{rules}
+use Rattle.interpretation.proofs.MarkLaws.{says_nothing, says_late, says_first, says_after}
 use Rattle.interpretation.proofs.interpret.Goals as goal
+use Rattle.interpretation.proofs.interpret.Goals.{else-noted-via-then-noted+else-is_attribute, else-noted-via-else-noted}
 
-pub returns-then-body-eq0 : goal.returns-then-body-eq0
-returns-then-body-eq0 c = says_nothing _ _ c.tail-body.ensures c.if-body-eq0.true
-
-pub returns-then-not-noted : goal.returns-then-not-noted
-returns-then-not-noted c = says_first _ _ c.tail-body.ensures c.if-body-eq0.false (c.if-not-noted.true) c.meaning.ensures
+pub returns-then-is_empty : goal.returns-then-is_empty
+returns-then-is_empty c = says_nothing _ _ c.tail-body.ensures (search rules)
 
 pub returns-then-is_attribute : goal.returns-then-is_attribute
-returns-then-is_attribute c = says_late _ _ c.tail-body.ensures c.if-body-eq0.false (c.if-not-noted.false) c.is_attribute.ensures c.if-is_attribute.true
+returns-then-is_attribute c = says_late _ _ c.tail-body.ensures (search rules) c.if-noted.true c.is_attribute.ensures c.if-is_attribute.true
 
 pub returns : goal.returns
-returns c = says_after _ _ c.tail-body.ensures c.if-body-eq0.false (c.if-not-noted.false) c.is_attribute.ensures c.if-is_attribute.false c.meaning-2.ensures
+returns c =
+    elim c.else-noted.branch [
+      | else-noted-via-then-noted+else-is_attribute w ↦ says_after _ _ c.tail-body.ensures (search rules) w.if-noted.true w.is_attribute.ensures w.if-is_attribute.false c.meaning.ensures
+      | else-noted-via-else-noted w ↦ says_first _ _ c.tail-body.ensures (search rules) w.if-noted.false c.meaning.ensures
+    ]

@@ -1,18 +1,31 @@
--- `meaning` meets its contract, by the marks passed before each answer.
+-- By the marks passed before each answer.
+use Rattle.interpretation.specs.Interpretation.{clef_mark, key_mark, symbol_mark}
+use Rattle.interpretation.proofs.Exits.{strips}
 use Rattle.interpretation.proofs.MarkLaws.{meaning_clef, meaning_key, meaning_meter, meaning_symbol, meaning_other}
 use Rattle.interpretation.proofs.meaning.Goals as goal
 
-pub returns-then-begins : goal.returns-then-begins
-returns-then-begins c = meaning_clef _ c.begins.ensures c.if-begins.true c.tail.ensures c.clef_of.ensures
+pub returns-in-Some : goal.returns-in-Some
+returns-in-Some c = meaning_clef _ (strips clef_mark _ c.in-Some.ensures.cases.0) c.in-Some.ensures.cases.1 c.clef_of.ensures
 
-pub returns-then-begins-2 : goal.returns-then-begins-2
-returns-then-begins-2 c = meaning_key _ c.begins.ensures c.if-begins.false c.begins-2.ensures c.if-begins-2.true c.tail-then-begins-2.ensures c.key_of.ensures
+pub returns-in-Some-strip_prefix : goal.returns-in-Some-strip_prefix
+returns-in-Some-strip_prefix c =
+    let no_clef = strips clef_mark c.args.body.now c.in_default.ensures.cases in
+    meaning_key _ no_clef (strips key_mark _ c.in-Some-strip_prefix.ensures.cases.0) c.in-Some-strip_prefix.ensures.cases.1 c.key_of.ensures
 
 pub returns-then-meter_mark : goal.returns-then-meter_mark
-returns-then-meter_mark c = meaning_meter _ c.begins.ensures c.if-begins.false c.begins-2.ensures c.if-begins-2.false c.meter_mark.ensures c.if-meter_mark.true c.tail-then-meter_mark.ensures c.meter_of.ensures
+returns-then-meter_mark c =
+    let no_clef = strips clef_mark c.args.body.now c.in_default.ensures.cases in
+    let no_key = strips key_mark c.args.body.now c.in_default-strip_prefix.ensures.cases in
+    meaning_meter _ no_clef no_key c.meter_mark.ensures c.if-meter_mark.true c.tail.ensures c.meter_of.ensures
 
-pub returns-then-begins-3 : goal.returns-then-begins-3
-returns-then-begins-3 c = meaning_symbol _ c.begins.ensures c.if-begins.false c.begins-2.ensures c.if-begins-2.false c.meter_mark.ensures c.if-meter_mark.false c.begins-3.ensures c.if-begins-3.true c.tail-then-begins-3.ensures c.symbol_of.ensures
+pub returns-in-Some-strip_prefix-2 : goal.returns-in-Some-strip_prefix-2
+returns-in-Some-strip_prefix-2 c =
+    let no_clef = strips clef_mark c.args.body.now c.in_default.ensures.cases in
+    let no_key = strips key_mark c.args.body.now c.in_default-strip_prefix.ensures.cases in
+    meaning_symbol _ no_clef no_key c.meter_mark.ensures c.if-meter_mark.false (strips symbol_mark _ c.in-Some-strip_prefix-2.ensures.cases.0) c.in-Some-strip_prefix-2.ensures.cases.1 c.symbol_of.ensures
 
 pub returns : goal.returns
-returns c = meaning_other _ c.begins.ensures c.if-begins.false c.begins-2.ensures c.if-begins-2.false c.meter_mark.ensures c.if-meter_mark.false c.begins-3.ensures c.if-begins-3.false c.other.ensures
+returns c =
+    let no_clef = strips clef_mark c.args.body.now c.in_default.ensures.cases in
+    let no_key = strips key_mark c.args.body.now c.in_default-strip_prefix.ensures.cases in
+    meaning_other _ no_clef no_key c.meter_mark.ensures c.if-meter_mark.false (strips symbol_mark _ c.in_default-strip_prefix-2.ensures.cases) c.other.ensures

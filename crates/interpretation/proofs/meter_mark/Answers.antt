@@ -1,12 +1,20 @@
--- `meter_mark` meets its contract, by the first two bytes.
+-- By the first two bytes.
+use native.Mathlib.Omega.{arith}
+use borrow.Author.Rules.{rules}
+use Rattle.interpretation.specs.Digits.{is_digit}
 use Rattle.interpretation.proofs.MarkLaws.{mark_short, mark_not, mark_digit}
 use Rattle.interpretation.proofs.meter_mark.Goals as goal
 
-pub returns-then-body-lt2 : goal.returns-then-body-lt2
-returns-then-body-lt2 c = mark_short _ c.if-body-lt2.true
+pub returns-in-77 : goal.returns-in-77
+unfolding is_digit
+returns-in-77 c = mark_digit _ (omega arith) (search rules)
 
-pub returns-then-body-ne77 : goal.returns-then-body-ne77
-returns-then-body-ne77 c = mark_not _ c.if-body-ne77.true
+pub returns-in_default : goal.returns-in_default
+returns-in_default c = mark_short _ c.in_default.len_below
 
-pub returns : goal.returns
-returns c = mark_digit _ c.if-body-ne77.false c.is_digit.ensures
+pub returns-in_default-2 : goal.returns-in_default-2
+unfolding is_digit
+returns-in_default-2 c = mark_digit _ (omega arith) (search rules)
+
+pub returns-in_default-3 : goal.returns-in_default-3
+returns-in_default-3 c = mark_not _ (λ e. omega arith)

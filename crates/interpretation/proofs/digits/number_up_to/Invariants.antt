@@ -1,11 +1,6 @@
--- `number_up_to` meets its contract. The invariant: the digits from i on follow the number read so far, which is held at the bound.
-use Prim.Native.Nat.{◌-◌}
-use lib.ListN.{length}
+-- The bytes so far are digits, and what is left decides.
 use Rattle.interpretation.proofs.DigitLaws.{Reading}
 use Rattle.interpretation.proofs.digits.number_up_to.Given as goal
 
-abbrev pub invariant-loop-i : goal.invariant-loop-i
-invariant-loop-i l = Reading l.s l.most l.n l.i
-
-abbrev pub decreases-loop-i : goal.decreases-loop-i
-decreases-loop-i l = length l.s - l.i
+abbrev pub invariant-loop-d : goal.invariant-loop-d
+invariant-loop-d l = Reading l.s l.most l.n l.d-index

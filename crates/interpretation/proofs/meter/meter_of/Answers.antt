@@ -1,14 +1,24 @@
--- `meter_of` meets its contract: the text is cut at its first `/`.
-use mathlib.Core.Path.{sym}
-use lib.Seq.{length-take-le}
+-- The text is cut at its first `/`.
+use mathlib.Core.Path.{◌≡◌, ◌∙◌}
+use borrow.Author.Rules.{rules}
+use borrow.Author.Tests.{tests}
+use lib.Dec.{eqb}
+use Rattle.std.specs.List.{position}
+use Rattle.std.proofs.lemmas.Iterator.{YieldsList-from_slice}
+use Rattle.std.proofs.lemmas.Iterator.Search.{position_from_yields_List}
+use Rattle.interpretation.proofs.Exits.{left, kept, found, unfound}
 use Rattle.interpretation.proofs.MeterLaws.{uncut, cut}
 use Rattle.interpretation.proofs.meter.meter_of.Goals as goal
 
-pub returns-then-at-s : goal.returns-then-at-s
-returns-then-at-s c = uncut _ c.find-at.ensures c.if-at-s.true
-
-pub slice_bounds-meter_from-end : goal.slice_bounds-meter_from-end
-slice_bounds-meter_from-end c = sym (length-take-le _ _ c.find-at.ensures.1)
+pub returns-in_err-at : goal.returns-in_err-at
+returns-in_err-at c =
+    let s = c.args.s.now in
+    let p : c.position.result ≡ position (λ x. eqb x 47) s = position_from_yields_List (λ x. eqb x 47) _ _ _ c.position.ensures.ran (YieldsList-from_slice s cc) (λ x t q k. search (rules, tests)) in
+    let e = left _ c.ok_or.ensures.value c.in_err-at.was c.from_residual.ensures.1 in
+    e.1 ∙ uncut s (unfound 47 s p e.0)
 
 pub returns : goal.returns
-returns c = cut _ c.find-at.ensures c.if-at-s.false c.tail.ensures c.without_plus.ensures c.meter_from.ensures
+returns c =
+    let s = c.args.s.now in
+    let p : c.position.result ≡ position (λ x. eqb x 47) s = position_from_yields_List (λ x. eqb x 47) _ _ _ c.position.ensures.ran (YieldsList-from_slice s cc) (λ x t q k. search (rules, tests)) in
+    cut s (found 47 s p (kept _ _ c.ok_or.ensures.value c.in_ok-at.was)) c.without_plus.ensures c.meter_from.ensures
