@@ -11,10 +11,9 @@ use Rattle.slices.proofs.TestLaws.{and_left, and_right}
 use Rattle.lines.specs.Tokens.{is_null}
 use Rattle.duration.specs.Length.{SameLength, note_length}
 use Rattle.token.specs.Account.{is_note, account_length}
-use Rattle.token.specs.Outcome.{read_token, reported}
+use Rattle.token.specs.Outcome.{Outcome, notice_number, read_token, reported}
 use Rattle.token.specs.declared.outcome.Note.{Note}
-use Rattle.token.specs.declared.outcome.Outcome.{Outcome}
-use Rattle.token.specs.declared.outcome.Outcome.TheVariants.{Silent, Unread, Heard}
+use Rattle.std.specs.Prelude.{Some, None, Ok, Err}
 use Rattle.token.proofs.AccountLaws.{is_heard, note_agrees, length_agrees}
 use Rattle.paths.specs.Row.{Spine, line, branch, outside}
 use Rattle.sheet.specs.Player.{notes_of}
@@ -111,11 +110,11 @@ module _ (partAt-text : ℕ → Option ℕ) (all : List (List ℕ)) (kern : List
   item_at p j s t = item_of partAt-text all kern k bar p j s t
 
   module _ (p v i : ℕ) (t : Token) where
-    note_length_lem : (n : Note) → read_token t.bytes (inferred_of all kern i t.bytes) ≡ Heard n
+    note_length_lem : (n : Note) → read_token t.bytes (inferred_of all kern i t.bytes) ≡ Ok (Some n)
         → SameLength (note_length n.value n.dots n.actual n.normal (eqb (flags_of n / 32 % 2) 1)) (account_length t.bytes (inferred_of all kern i t.bytes))
     note_length_lem n e = rw (grace_bit n) (length_agrees t.bytes (inferred_of all kern i t.bytes) n e)
 
-    note_adds : (n : Note) (st : State) → read_token t.bytes (inferred_of all kern i t.bytes) ≡ Heard n → st.bars + 1 ≡ bar → p < length st.parts
+    note_adds : (n : Note) (st : State) → read_token t.bytes (inferred_of all kern i t.bytes) ≡ Ok (Some n) → st.bars + 1 ≡ bar → p < length st.parts
         → Adds st (record {
           state = with_notes (with_part st p (sounded (part_at st p) v t.bytes)) (st.notes + 1);
           records = note_record p v k (i + 1) t.bytes n st ∷ [];
@@ -139,7 +138,7 @@ module _ (partAt-text : ℕ → Option ℕ) (all : List (List ℕ)) (kern : List
     }
 
     -- "20 inferred", and "at most the 100,000th"
-    add_adds : (n : Note) (st : State) → read_token t.bytes (inferred_of all kern i t.bytes) ≡ Heard n → st.bars + 1 ≡ bar → p < length st.parts
+    add_adds : (n : Note) (st : State) → read_token t.bytes (inferred_of all kern i t.bytes) ≡ Ok (Some n) → st.bars + 1 ≡ bar → p < length st.parts
         → StepAdds st (add_note p v k (i + 1) t n st) (item_at p i (line p v) t.bytes ∷ [])
     unfolding add_note
     add_adds n st e b l = go (ltb st.notes 100000) (cond n.inferred (notify 20 k (i + 1) (span_of_token t) st) (quiet st)) (first n.inferred)
@@ -163,9 +162,9 @@ module _ (partAt-text : ℕ → Option ℕ) (all : List (List ℕ)) (kern : List
 
     outcome_adds : (o : Outcome) (st : State) → read_token t.bytes (inferred_of all kern i t.bytes) ≡ o → st.bars + 1 ≡ bar → p < length st.parts
         → StepAdds st (by_outcome o p v k (i + 1) t st) (cond (is_heard o) (item_at p i (line p v) t.bytes ∷ []) [])
-    outcome_adds Silent st e b l = quiet_adds st
-    outcome_adds (Unread number) st e b l = notify_adds number k (i + 1) (span_of_token t) st
-    outcome_adds (Heard n) st e b l = add_adds n st e b l
+    outcome_adds (Ok None) st e b l = quiet_adds st
+    outcome_adds (Err why) st e b l = notify_adds (notice_number why) k (i + 1) (span_of_token t) st
+    outcome_adds (Ok (Some n)) st e b l = add_adds n st e b l
 
     signify_adds : (bytes : List ℕ) (st : State) → Adds st (signify bytes k (i + 1) st) []
     signify_adds [] st = quiet_adds st

@@ -11,10 +11,9 @@ use Rattle.lines.specs.Lines.{kind_of}
 use Rattle.lines.specs.Tokens.{tokens_of, is_null, is_kern, is_exclusive}
 use Rattle.lines.specs.declared.Kind.{Kind}
 use Rattle.lines.specs.declared.Kind.TheVariants.{Empty, Reference, Comment, Star, Bar, Data}
-use Rattle.token.specs.Outcome.{read_token, reported}
+use Rattle.token.specs.Outcome.{Outcome, read_token, reported}
 use Rattle.token.specs.declared.outcome.Note.{Note}
-use Rattle.token.specs.declared.outcome.Outcome.{Outcome}
-use Rattle.token.specs.declared.outcome.Outcome.TheVariants.{Silent, Unread, Heard}
+use Rattle.std.specs.Prelude.{Some, None, Ok, Err}
 use Rattle.paths.specs.declared.PathToken.{PathToken}
 use Rattle.paths.specs.Row.{Spine, line, branch, outside}
 use Rattle.paths.specs.Token.{path_token}
@@ -95,9 +94,9 @@ module _ (k : ℕ) (P : ℕ → ℕ → Type 0) where
       go false r = other 10 0 (omega arith) (omega arith) (λ e. omega arith)
 
   outcome_stops : (o : Outcome) (p v j : ℕ) (t : Token) (st : State) → Stops (by_outcome o p v k j t st)
-  outcome_stops Silent p v j t st = tt
-  outcome_stops (Unread number) p v j t st = tt
-  outcome_stops (Heard n) p v j t st = add_stops p v j t n st
+  outcome_stops (Ok None) p v j t st = tt
+  outcome_stops (Err why) p v j t st = tt
+  outcome_stops (Ok (Some n)) p v j t st = add_stops p v j t n st
 
   module _ (all : List (List ℕ)) (kern : List Bool) where
     token_stops : (p v i : ℕ) (t : Token) (st : State) → Stops (read_token_at all kern p v k i t st)

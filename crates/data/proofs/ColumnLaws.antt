@@ -8,6 +8,7 @@ use lib.ListN.{length, take, drop, get_or, length-take}
 use Rattle.lines.specs.Tokens.{tokens_of, is_null}
 use Rattle.duration.specs.Duration.{duration_of}
 use Rattle.duration.specs.declared.Value.{Value}
+use Rattle.std.specs.Prelude.{Option}
 use Rattle.paths.specs.Row.{Spine, line, branch, outside}
 use Rattle.spines.specs.Cells.{spine_of, row_of}
 use Rattle.spines.proofs.CellLaws.{cell_at, cell_outside, cell_line, cell_branch}
@@ -65,7 +66,7 @@ module _ (text row : List ℕ) (c : Column) where
       ∙ ap (λ (s : Step). landed s out at)
       (sym (spine_null (spine_of (get_or row c.index 0)) (take (length row) (tokens_of text)) (map is_kern_spine (row_of row)) c.line c.index (token_in text c) st e))
 
-  pub column_line : (st : State) (out : List ℕ) (at : ℕ) {v : Value} {s : Spot} {l : Landed} → 8 ≤ get_or row c.index 0 → get_or row c.index 0 % 8 ≤ 3
+  pub column_line : (st : State) (out : List ℕ) (at : ℕ) {v : Option Value} {s : Spot} {l : Landed} → 8 ≤ get_or row c.index 0 → get_or row c.index 0 % 8 ≤ 3
       → v ≡ duration_of (notes.inferred_for (take (length row) (tokens_of text)) (map is_kern_spine (row_of row)) c.index (token_in text c).bytes)
       → s ≡ spot_of row c
       → l ≡ landed (token_step (token_in text c).bytes v s st) out at
@@ -74,7 +75,7 @@ module _ (text row : List ℕ) (c : Column) where
   column_line st out at {v} h m e is q =
       q
       ∙ ap (λ (x : Spot). landed (token_step (token_in text c).bytes v x st) out at) is
-      ∙ ap (λ (x : Value). landed (token_step (token_in text c).bytes x (spot_of row c) st) out at) e
+      ∙ ap (λ (x : Option Value). landed (token_step (token_in text c).bytes x (spot_of row c) st) out at) e
       ∙ ap (λ (s : Spine). landed (notes.read_spine s (take (length row) (tokens_of text)) (map is_kern_spine (row_of row)) c.line c.index (token_in text c) st) out at)
       (sym (is_line h m))
 

@@ -11,7 +11,7 @@ use borrow.Author.Tests.{leb-true, leb-false, ltb-true, ltb-false, le-leb}
 use Rattle.lines.specs.Tokens.{tokens_of}
 use Rattle.duration.specs.Duration.{duration_of}
 use Rattle.duration.specs.declared.Value.{Value}
-use Rattle.duration.specs.declared.Value.TheVariants.{Missing}
+use Rattle.std.specs.Prelude.{Option, None}
 use Rattle.peers.specs.Peers.{is_bare, peers_from, uniform, peer_reciprocal, kern_cells}
 use Rattle.peers.proofs.SummaryLaws.{bare_column}
 use Rattle.peers.proofs.MeetLaws.{no_value}
@@ -70,7 +70,7 @@ module _ (line row : List ℕ) (c : Column) (a : Asked) (e : Entered line row c 
       ap duration_of (bare_column (tokens_of line) (kern_cells row) c.index (kern_at row c.index e.inside ∙ le-leb _ _ kern) (ap is_bare e.here ∙ b)
       ∙ ap uniform (sym (peers_few 0 c.index (tokens_of line) row) ∙ ap (peers_from 0 c.index (take (length row) (tokens_of line))) (sym (kern_row row))))
 
-  pub infers : {v : Value} → v ≡ inferred_by (is_bare (token_in line c).bytes) a
+  pub infers : {v : Option Value} → v ≡ inferred_by (is_bare (token_in line c).bytes) a
       → v ≡ duration_of (inferred_for (take (length row) (tokens_of line)) (map is_kern_spine (row_of row)) c.index (token_in line c).bytes)
   unfolding inferred_for
   infers {v} q = go (is_bare (token_in line c).bytes) refl q
@@ -82,10 +82,10 @@ module _ (line row : List ℕ) (c : Column) (a : Asked) (e : Entered line row c 
 
 -- ---- the record is asked: t says whether a token is bare
 module _ (line row : List ℕ) (a : Asked) where
-  pub asks : {b t : Bool} {v : Value} → b ≡ t → b ≡ true → v ≡ agreed_in line row → Given v ≡ asked_by t line row a
+  pub asks : {b t : Bool} {v : Option Value} → b ≡ t → b ≡ true → v ≡ agreed_in line row → Given v ≡ asked_by t line row a
   asks p q e = rw (sym p ∙ q, e)
 
-  pub asked_before : {b t : Bool} (v : Value) → b ≡ t → b ≡ true → a ≡ Given v → RightlyAsked line row a → a ≡ asked_by t line row a
+  pub asked_before : {b t : Bool} (v : Option Value) → b ≡ t → b ≡ true → a ≡ Given v → RightlyAsked line row a → a ≡ asked_by t line row a
   asked_before v p q e r =
       let w : v ≡ agreed_in line row = subst (λ (x : Asked). RightlyAsked line row x) e r in
       rw (sym p ∙ q) (e ∙ ap Given w)
@@ -99,11 +99,11 @@ module _ (line row : List ℕ) (a : Asked) where
 
 -- ---- the ways out of `infer`
 module _ (a : Asked) {b t : Bool} (p : b ≡ t) where
-  pub infers_unasked : b ≡ true → a ≡ Unasked → Missing ≡ inferred_by t a
+  pub infers_unasked : b ≡ true → a ≡ Unasked → None ≡ inferred_by t a
   infers_unasked q e = rw (sym p ∙ q, e)
 
-  pub infers_given : {v : Value} → b ≡ true → a ≡ Given v → v ≡ inferred_by t a
+  pub infers_given : {v : Option Value} → b ≡ true → a ≡ Given v → v ≡ inferred_by t a
   infers_given q e = rw (sym p ∙ q, e)
 
-  pub infers_not : b ≡ false → Missing ≡ inferred_by t a
+  pub infers_not : b ≡ false → None ≡ inferred_by t a
   infers_not q = rw (sym p ∙ q)

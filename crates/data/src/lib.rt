@@ -43,11 +43,11 @@ struct Column {
     offset: u32,
 }
 
-// What a record gives its bare columns: not asked for yet, or a value, Missing where the others don't agree.
+// What a record gives its bare columns: not asked for yet, or a value, None where the others don't agree.
 #[derive(Clone, Copy)]
 enum Asked {
     Unasked,
-    Given(Value),
+    Given(Option<Value>),
 }
 
 // The record is asked at its first bare token, the one from `from` to `end`, and what it gave is kept.
@@ -70,21 +70,21 @@ fn ask(line: &[u8], row: &[u16], asked: Asked, from: usize, end: usize) -> Asked
     asked
 }
 
-// The value that a bare token gets; Missing for any other.
-fn infer(asked: Asked, token: &[u8]) -> Value
+// The value that a bare token gets; None for any other.
+fn infer(asked: Asked, token: &[u8]) -> Option<Value>
     ensures { result ≡ inferred_by (is_bare token.now) asked }
 {
     if peers::is_bare(token) {
         match asked {
             Asked::Unasked => {
-                return Value::Missing;
+                return None;
             }
             Asked::Given(value) => {
                 return value;
             }
         }
     }
-    Value::Missing
+    None
 }
 
 // One column: spines outside kern and branches are passed over.

@@ -6,17 +6,18 @@ use lib.Dec.{T}
 use Rattle.slices.specs.Compare.{same_bytes}
 use Rattle.duration.specs.Duration.{digits, number_from, exponent_of, gcd_in, written, written_at, counts, duration_of}
 use Rattle.duration.specs.declared.Value.{Value}
-use Rattle.duration.specs.declared.Value.TheVariants.{Missing, Plain, Tuplet}
+use Rattle.duration.specs.declared.Value.TheVariants.{Plain, Tuplet}
+use Rattle.std.specs.Prelude.{Option, Some, None}
 
 -- a text, and the sheet's value, actual and normal, with 0, 0 for no tuplet; nothing for no value
 data Line : Type 0 where
   ◌writes◌ : List ℕ → List ℕ → Line
 
 infix 70 ◌writes◌
-shown : Value → List ℕ
-shown Missing = []
-shown (Plain v) = v ∷ 0 ∷ 0 ∷ []
-shown (Tuplet v actual normal) = v ∷ actual ∷ normal ∷ []
+shown : Option Value → List ℕ
+shown None = []
+shown (Some (Plain v)) = v ∷ 0 ∷ 0 ∷ []
+shown (Some (Tuplet v actual normal)) = v ∷ actual ∷ normal ∷ []
 
 right : List Line → Bool
 right [] = true

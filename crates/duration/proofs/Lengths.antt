@@ -1,24 +1,25 @@
 -- Lengths: the factors' bounds, so that the products fit 32 bits; no denominator is 0.
 use mathlib.Core.Path.{◌≡◌, refl, ◌∙◌}
 use mathlib.Core.Bool.{Bool, true, false, cond}
-use Prim.Native.Nat.{ℕ, zero, suc, ◌+◌, ◌*◌, ◌%◌, ◌^◌, ◌≤◌, ◌<◌}
+use Prim.Native.Nat.{ℕ, zero, suc, ◌+◌, ◌*◌, ◌%◌, ◌^◌, ◌≤◌, ◌<◌, min}
 use native.Mathlib.Nat.{mul-le-mul, mul-pos}
 use native.Mathlib.Omega.{arith}
 use lib.Dec.{leb, eqb, lit≤, lit<}
 use lib.Pow.{pow_mono, pow_pos, shl_exact}
-use borrow.Author.Tests.{le-leb, lt-leb, leb-true, eqb-false}
+use borrow.Author.Tests.{leb-true, leb-false, eqb-false}
 use Rattle.duration.specs.Length.{Fraction, ◌over◌, ◌times◌, value_length, dot_factor, tuplet_factor, note_length}
 
 -- ---- the ways out of the functions
-pub value_last : (v : ℕ) → 9 < v → 4 over 512 ≡ value_length v
+pub value_shift : (v m : ℕ) → m ≡ min v 9 → 4 over (1 * 2 ^ m % 4294967296) ≡ value_length v
 unfolding value_length
-value_last v h = rw (lt-leb v 9 h)
+value_shift v m e = go (leb v 9) refl
+  where
+    p : 1 * 2 ^ m % 4294967296 ≡ 2 ^ m
+    p = shl_exact {a = 1} 1 m 32 (lit< tt) (omega arith) ∙ (omega arith)
 
-pub value_shift : (v : ℕ) → v ≤ 9 → 4 over (1 * 2 ^ v % 4294967296) ≡ value_length v
-unfolding value_length
-value_shift v h =
-    let p : 1 * 2 ^ v % 4294967296 ≡ 2 ^ v = shl_exact {a = 1} 1 v 32 (lit< tt) (omega arith) ∙ (omega arith) in
-    rw (le-leb v 9 h, p)
+    go : (t : Bool) → leb v 9 ≡ t → 4 over (1 * 2 ^ m % 4294967296) ≡ 4 over (2 ^ cond t v 9)
+    go true q = let l : v ≤ 9 = leb-true v 9 q in let f : m ≡ v = omega arith in rw (p, f)
+    go false q = let l : 9 < v = leb-false v 9 q in let f : m ≡ 9 = omega arith in rw (p, f)
 
 pub dots_last : (d : ℕ) → (d ≡ 0 → ⊥) → (d ≡ 1 → ⊥) → (d ≡ 2 → ⊥) → 15 over 8 ≡ dot_factor d
 unfolding dot_factor

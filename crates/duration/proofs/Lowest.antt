@@ -1,5 +1,5 @@
 -- The written value is the largest power of two not above the reciprocal, the rest a tuplet in lowest terms: one computed fact over all 255.
-use mathlib.Core.Path.{◌≡◌, sym, ◌∙◌}
+use mathlib.Core.Path.{◌≡◌}
 use mathlib.Core.Logic.{◌⊎◌, inl, inr}
 use mathlib.Core.Bool.{Bool, true, false, ◌&&◌}
 use mathlib.Core.List.{List, [], ◌∷◌}
@@ -12,7 +12,8 @@ use Rattle.slices.proofs.TestLaws.{clash}
 use Rattle.duration.specs.Duration.{gcd_in, gcd_of, exponent_of, written, written_at, duration_of}
 use Rattle.duration.specs.Reciprocal.{decimal}
 use Rattle.duration.specs.declared.Value.{Value}
-use Rattle.duration.specs.declared.Value.TheVariants.{Missing, Plain, Tuplet}
+use Rattle.duration.specs.declared.Value.TheVariants.{Plain, Tuplet}
+use Rattle.std.specs.Prelude.{Some}
 use Rattle.duration.proofs.Divisors.{gcd_greatest}
 use Rattle.duration.proofs.Kept.{Outcome, breve, longa, reciprocal, none, outcome}
 
@@ -76,7 +77,6 @@ ratio_is n v a d t =
 
 -- a plain value is 1 to 1, and a tuplet is not
 fair : ℕ → Value → Bool
-fair n Missing = false
 fair n (Plain v) = ratio n v 1 1
 fair n (Tuplet v a d) = ltb d a && ratio n v a d
 
@@ -103,26 +103,26 @@ written_tuplet n v a d lo hi e =
     (ltb→lt d a (both_left (ltb d a) (ratio n v a d) t), ratio_is n v a d (both_right (ltb d a) (ratio n v a d) t))
 
 -- ---- of the digits
-pub duration_tuplet : (s : List ℕ) (v a d : ℕ) → duration_of s ≡ Tuplet v a d → (d < a) × Ratio (decimal s) v a d
+pub duration_tuplet : (s : List ℕ) (v a d : ℕ) → duration_of s ≡ Some (Tuplet v a d) → (d < a) × Ratio (decimal s) v a d
 duration_tuplet s v a d e = go (outcome s)
   where
     go : Outcome s (duration_of s) → (d < a) × Ratio (decimal s) v a d
     go (breve _ r) = clash cc
     go (longa _ r) = clash cc
-    go (reciprocal w r) = written_tuplet (decimal s) v a d w.low w.high (sym r ∙ e)
+    go (reciprocal w r) = written_tuplet (decimal s) v a d w.low w.high cc
     go (none _ _ _ r) = clash cc
 
-pub duration_plain : (s : List ℕ) (v : ℕ) → duration_of s ≡ Plain v
+pub duration_plain : (s : List ℕ) (v : ℕ) → duration_of s ≡ Some (Plain v)
     → ((s ≡ 48 ∷ []) × (v ≡ 1)) ⊎ (((s ≡ 48 ∷ 48 ∷ []) × (v ≡ 0)) ⊎ Ratio (decimal s) v 1 1)
 duration_plain s v e = go (outcome s)
   where
     go : Outcome s (duration_of s) → ((s ≡ 48 ∷ []) × (v ≡ 1)) ⊎ (((s ≡ 48 ∷ 48 ∷ []) × (v ≡ 0)) ⊎ Ratio (decimal s) v 1 1)
     go (breve q r) = inl (q, cc)
     go (longa q r) = inr (inl (q, cc))
-    go (reciprocal w r) = inr (inr (written_plain (decimal s) v w.low w.high (sym r ∙ e)))
+    go (reciprocal w r) = inr (inr (written_plain (decimal s) v w.low w.high cc))
     go (none _ _ _ r) = clash cc
 
-pub duration_value : (s : List ℕ) (v : ℕ) → duration_of s ≡ Plain v → v ≤ 9
+pub duration_value : (s : List ℕ) (v : ℕ) → duration_of s ≡ Some (Plain v) → v ≤ 9
 duration_value s v e = go (duration_plain s v e)
   where
     go : ((s ≡ 48 ∷ []) × (v ≡ 1)) ⊎ (((s ≡ 48 ∷ 48 ∷ []) × (v ≡ 0)) ⊎ Ratio (decimal s) v 1 1) → v ≤ 9

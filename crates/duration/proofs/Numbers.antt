@@ -1,6 +1,6 @@
 -- Decimal digits: what the loop of `parse` keeps, and that reading from the left gives the number of the places.
 use mathlib.Core.Path.{◌≡◌, refl, sym, ap, ◌∙◌}
-use mathlib.Core.Bool.{Bool, true, false, cond, ◌&&◌}
+use mathlib.Core.Bool.{true, false, cond, ◌&&◌}
 use mathlib.Core.List.{List, [], ◌∷◌}
 use Prim.Native.Nat.{ℕ, zero, suc, ◌+◌, ◌-◌, ◌*◌, ◌^◌, ◌≤◌, ◌<◌}
 use native.Mathlib.Nat.{pow-suc, pow-le-pow_right, le_of_suc-le-suc, not-suc-le-zero, mul_assoc, mul_comm, add-mul}
@@ -9,30 +9,33 @@ use native.Mathlib.Omega.{arith}
 use lib.Dec.{leb, lit<}
 use lib.ListN.{length, get_or, drop, drop_of_length-le}
 use lib.Seq.{drop-cons}
-use borrow.Author.Tests.{le-leb, lt-leb, leb-true}
-use Rattle.slices.proofs.TestLaws.{clash, both}
+use borrow.Author.Tests.{le-leb, leb-true}
+use Rattle.slices.proofs.TestLaws.{both}
 use Rattle.duration.specs.Duration.{digit, digits, number_from, number, number_of}
 use Rattle.duration.specs.Reciprocal.{decimal}
-use Rattle.duration.specs.declared.Number.{Number}
-use Rattle.duration.specs.declared.Number.TheVariants.{Is, Not}
+use Rattle.std.specs.Prelude.{Option, Some, None}
 
 -- what a text writes after n
-abbrev after : ℕ → List ℕ → Number
-after n s = cond (digits s) (Is (number_from n s)) Not
+abbrev after : ℕ → List ℕ → Option ℕ
+after n s = cond (digits s) (Some (number_from n s)) None
 
-after_more : (n x : ℕ) (s : List ℕ) → after n (x ∷ s) ≡ cond (digit x && digits s) (Is (number_from (n * 10 + (x - 48)) s)) Not
+after_more : (n x : ℕ) (s : List ℕ) → after n (x ∷ s) ≡ cond (digit x && digits s) (Some (number_from (n * 10 + (x - 48)) s)) None
 unfolding digits number_from
 after_more n x s = refl
 
-after_end : (n : ℕ) → after n [] ≡ Is n
+after_end : (n : ℕ) → after n [] ≡ Some n
 unfolding digits number_from
 after_end n = refl
+
+-- what a digit is
+pub digit_range : (x : ℕ) → digit x ≡ true → (48 ≤ x) × (x ≤ 57)
+digit_range x e = let b = both (leb 48 x) (leb x 57) e in (leb-true 48 x b.0, leb-true x 57 b.1)
 
 -- the loop of `parse`: the digits from i on decide, and n has at most i places
 pub record Parse (s : List ℕ) (n i : ℕ) : Type 0 where
   pub high : i ≤ length s
   pub small : n < 10 ^ i
-  pub same : number_of s ≡ cond (digits (drop i s)) (Is (number_from n (drop i s))) Not
+  pub same : number_of s ≡ cond (digits (drop i s)) (Some (number_from n (drop i s))) None
 
 pub parse_first : {s : List ℕ} → Parse s 0 0
 unfolding number_of
@@ -41,40 +44,32 @@ parse_first = record { high = omega arith; small = lit< tt; same = refl }
 module _ {s : List ℕ} {n i : ℕ} (inv : Parse s n i) where
   at_index : i < length s
       → number_of s
-      ≡ cond (digit (get_or s i 0) && digits (drop (i + 1) s)) (Is (number_from (n * 10 + (get_or s i 0 - 48)) (drop (i + 1) s))) Not
+      ≡ cond (digit (get_or s i 0) && digits (drop (i + 1) s)) (Some (number_from (n * 10 + (get_or s i 0 - 48)) (drop (i + 1) s))) None
   at_index h = inv.same ∙ rw (drop-cons s i 0 h, add-one) (after_more n (get_or s i 0) (drop (suc i) s))
 
   pub parse_room : i < length s → length s ≤ 4 → n < 1000
   parse_room h few = let p : 10 ^ i ≤ 10 ^ 3 = pow-le-pow_right (lit< tt) {j = 3} (omega arith) in omega (arith, inv.small)
 
-  pub parse_low : i < length s → get_or s i 0 < 48 → Not ≡ number_of s
-  parse_low h lo = sym (at_index h ∙ rw (lt-leb 48 (get_or s i 0) lo))
+  pub parse_stop : i < length s → digit (get_or s i 0) ≡ false → None ≡ number_of s
+  parse_stop h d = sym (at_index h ∙ rw d)
 
-  pub parse_high : i < length s → 48 ≤ get_or s i 0 → 57 < get_or s i 0 → Not ≡ number_of s
-  parse_high h lo hi = sym (at_index h ∙ rw (le-leb 48 (get_or s i 0) lo, lt-leb (get_or s i 0) 57 hi))
-
-  pub parse_turn : i < length s → 48 ≤ get_or s i 0 → get_or s i 0 ≤ 57 → Parse s (n * 10 + (get_or s i 0 - 48)) (i + 1)
-  parse_turn h lo hi =
+  pub parse_turn : i < length s → digit (get_or s i 0) ≡ true → Parse s (n * 10 + (get_or s i 0 - 48)) (i + 1)
+  parse_turn h d =
+      let r = digit_range (get_or s i 0) d in
       record {
         high = omega arith;
         small = rw (add-one, pow-suc) (omega (arith, inv.small));
-        same = at_index h ∙ rw (le-leb 48 (get_or s i 0) lo, le-leb (get_or s i 0) 57 hi);
+        same = at_index h ∙ rw d;
       }
 
-  pub parse_past : length s ≤ i → Is n ≡ number_of s
+  pub parse_past : length s ≤ i → Some n ≡ number_of s
   parse_past h = sym (inv.same ∙ rw (drop_of_length-le s h) (after_end n))
-
--- what a digit is
-digit_range : (x : ℕ) (t u : Bool) → leb 48 x ≡ t → leb x 57 ≡ u → (t && u) ≡ true → (48 ≤ x) × (x ≤ 57)
-digit_range x true true e f g = (leb-true 48 x e, leb-true x 57 f)
-digit_range x true false e f g = clash cc
-digit_range x false u e f g = clash cc
 
 pub first_digit : (x : ℕ) (s : List ℕ) → digits (x ∷ s) ≡ true → (48 ≤ x) × (x ≤ 57) × (digits s ≡ true)
 unfolding digits
 first_digit x s e =
     let b = both (digit x) (digits s) e in
-    let r = digit_range x (leb 48 x) (leb x 57) refl refl b.0 in
+    let r = digit_range x b.0 in
     (r.0, r.1, b.1)
 
 -- all bytes are digits exactly where each is

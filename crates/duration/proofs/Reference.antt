@@ -13,45 +13,46 @@ use Rattle.duration.specs.Duration.{gcd_in, exponent_of, written, written_at, du
 use Rattle.duration.specs.Length.{Fraction, ◌over◌, SameLength, value_length, dot_factor, tuplet_factor, note_length}
 use Rattle.duration.specs.Reciprocal.{decimal, reciprocal_length, added, dotted}
 use Rattle.duration.specs.declared.Value.{Value}
-use Rattle.duration.specs.declared.Value.TheVariants.{Missing, Plain, Tuplet}
+use Rattle.duration.specs.declared.Value.TheVariants.{Plain, Tuplet}
+use Rattle.std.specs.Prelude.{Option, Some, None}
 use Rattle.duration.proofs.Kept.{Worth, Outcome, breve, longa, reciprocal, none, outcome}
 
 -- how long a value with d dots lasts
-abbrev pub lasting : Value → ℕ → Fraction
-lasting Missing d = 0 over 1
-lasting (Plain v) d = note_length v d 0 0 false
-lasting (Tuplet v actual normal) d = note_length v d actual normal false
+abbrev pub lasting : Option Value → ℕ → Fraction
+lasting None d = 0 over 1
+lasting (Some (Plain v)) d = note_length v d 0 0 false
+lasting (Some (Tuplet v actual normal)) d = note_length v d actual normal false
 
 same : Fraction → Fraction → Bool
 same f g = eqb (f.numerator * g.denominator) (g.numerator * f.denominator)
 
-agree : Value → Fraction → ℕ → Bool
+agree : Option Value → Fraction → ℕ → Bool
 agree r f d = same (lasting r d) (dotted d f)
 
 agree_at : ℕ → Bool
-agree_at k = let r = written (suc k) in all (agree r (1 over suc k)) 4
+agree_at k = let r = Some (written (suc k)) in all (agree r (1 over suc k)) 4
 
 each_agrees : (k : ℕ) → k < 255 → T (agree_at k)
 unfolding agree_at agree same written written_at exponent_of gcd_in note_length value_length dot_factor tuplet_factor dotted added
 each_agrees = below agree_at 255 tt
 
-breve_agrees : (d : ℕ) → d < 4 → T (agree (Plain 1) (2 over 1) d)
+breve_agrees : (d : ℕ) → d < 4 → T (agree (Some (Plain 1)) (2 over 1) d)
 unfolding agree same note_length value_length dot_factor tuplet_factor dotted added
-breve_agrees = below (agree (Plain 1) (2 over 1)) 4 tt
+breve_agrees = below (agree (Some (Plain 1)) (2 over 1)) 4 tt
 
-longa_agrees : (d : ℕ) → d < 4 → T (agree (Plain 0) (4 over 1) d)
+longa_agrees : (d : ℕ) → d < 4 → T (agree (Some (Plain 0)) (4 over 1) d)
 unfolding agree same note_length value_length dot_factor tuplet_factor dotted added
-longa_agrees = below (agree (Plain 0) (4 over 1)) 4 tt
+longa_agrees = below (agree (Some (Plain 0)) (4 over 1)) 4 tt
 
-agree_is : (r : Value) (f : Fraction) (d : ℕ) → T (agree r f d) → SameLength (lasting r d) (dotted d f)
+agree_is : (r : Option Value) (f : Fraction) (d : ℕ) → T (agree r f d) → SameLength (lasting r d) (dotted d f)
 unfolding agree same
 agree_is r f d t = eqb→eq _ _ t
 
-written_agrees : (n d : ℕ) → 1 ≤ n → n ≤ 255 → d ≤ 3 → SameLength (lasting (written n) d) (dotted d (1 over n))
+written_agrees : (n d : ℕ) → 1 ≤ n → n ≤ 255 → d ≤ 3 → SameLength (lasting (Some (written n)) d) (dotted d (1 over n))
 unfolding agree_at
 written_agrees zero d lo hi h = absurd (omega arith)
 written_agrees (suc k) d lo hi h =
-    agree_is (written (suc k)) (1 over suc k) d (below (agree (written (suc k)) (1 over suc k)) 4 (each_agrees k hi) d (omega arith))
+    agree_is (Some (written (suc k))) (1 over suc k) d (below (agree (Some (written (suc k))) (1 over suc k)) 4 (each_agrees k hi) d (omega arith))
 
 -- ---- of the digits
 breve_length : reciprocal_length (48 ∷ []) ≡ 2 over 1
@@ -72,22 +73,22 @@ worth_length s w = go (same_bytes (48 ∷ []) s) (same_bytes (48 ∷ 48 ∷ []) 
     go false true p q = absurd (let z : decimal s ≡ 0 = ap decimal (same_is (48 ∷ 48 ∷ []) s q) in omega (arith, w.low))
     go false false p q = refl
 
-pub reference_agrees : (s : List ℕ) (d : ℕ) → (duration_of s ≡ Missing → ⊥) → d ≤ 3
+pub reference_agrees : (s : List ℕ) (d : ℕ) → (duration_of s ≡ None → ⊥) → d ≤ 3
     → SameLength (lasting (duration_of s) d) (dotted d (reciprocal_length s))
 reference_agrees s d h few = go (outcome s)
   where
     go : Outcome s (duration_of s) → SameLength (lasting (duration_of s) d) (dotted d (reciprocal_length s))
-    go (breve e r) = rw (r, e, breve_length) (agree_is (Plain 1) (2 over 1) d (breve_agrees d (omega arith)))
-    go (longa e r) = rw (r, e, longa_length) (agree_is (Plain 0) (4 over 1) d (longa_agrees d (omega arith)))
+    go (breve e r) = rw (r, e, breve_length) (agree_is (Some (Plain 1)) (2 over 1) d (breve_agrees d (omega arith)))
+    go (longa e r) = rw (r, e, longa_length) (agree_is (Some (Plain 0)) (4 over 1) d (longa_agrees d (omega arith)))
     go (reciprocal w r) = rw (r, worth_length s w) (written_agrees (decimal s) d w.low w.high few)
     go (none _ _ _ r) = absurd (h r)
 
 -- the same for a value that is known
-pub plain_agrees : (s : List ℕ) (v d : ℕ) → duration_of s ≡ Plain v → d ≤ 3
+pub plain_agrees : (s : List ℕ) (v d : ℕ) → duration_of s ≡ Some (Plain v) → d ≤ 3
     → SameLength (note_length v d 0 0 false) (dotted d (reciprocal_length s))
 plain_agrees s v d e few = rw e at (reference_agrees s d (λ m. clash cc) few)
 
-pub tuplet_agrees : (s : List ℕ) (v actual normal d : ℕ) → duration_of s ≡ Tuplet v actual normal → d ≤ 3
+pub tuplet_agrees : (s : List ℕ) (v actual normal d : ℕ) → duration_of s ≡ Some (Tuplet v actual normal) → d ≤ 3
     → SameLength (note_length v d actual normal false) (dotted d (reciprocal_length s))
 tuplet_agrees s v actual normal d e few =
     rw e at (reference_agrees s d (λ m. clash cc) few)

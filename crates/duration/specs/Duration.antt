@@ -1,11 +1,9 @@
 -- The value that a reciprocal writes.
-use Rattle.std.specs.Prelude.{ℕ, zero, suc, ◌+◌, ◌-◌, ◌*◌, ◌/◌, ◌%◌, ◌^◌, Bool, true, cond, ◌&&◌, List, [], ◌∷◌, eqb, leb, length}
+use Rattle.std.specs.Prelude.{ℕ, zero, suc, ◌+◌, ◌-◌, ◌*◌, ◌/◌, ◌%◌, ◌^◌, Bool, true, cond, ◌&&◌, List, [], ◌∷◌, eqb, leb, length, Option, Some, None}
 use Rattle.slices.specs.Ascii.{ascii}
 use Rattle.slices.specs.Compare.{same_bytes}
-use Rattle.duration.specs.declared.Number.{Number}
-use Rattle.duration.specs.declared.Number.TheVariants.{Is, Not}
 use Rattle.duration.specs.declared.Value.{Value}
-use Rattle.duration.specs.declared.Value.TheVariants.{Missing, Plain, Tuplet}
+use Rattle.duration.specs.declared.Value.TheVariants.{Plain, Tuplet}
 
 abbrev pub digit : ℕ → Bool
 digit x = leb 48 x && leb x 57
@@ -24,8 +22,8 @@ abbrev pub number : List ℕ → ℕ
 number s = number_from 0 s
 
 -- the number of a text, if all of it is digits
-unfoldable pub number_of : List ℕ → Number
-number_of s = cond (digits s) (Is (number s)) Not
+unfoldable pub number_of : List ℕ → Option ℕ
+number_of s = cond (digits s) (Some (number s)) None
 
 -- the exponent of "the largest power of two not above the reciprocal" n, of those up to 2 ^ k
 unfoldable pub exponent_of : ℕ → ℕ → ℕ
@@ -54,8 +52,8 @@ unfoldable pub counts : List ℕ → Bool
 counts s = digits s && leb 1 (length s) && leb (length s) 4 && leb 1 (number s) && leb (number s) 255
 
 -- "A reciprocal has a value exactly for `0` (breve), `00` (longa), or 1 to 4 digits worth 1 to 255"
-unfoldable pub duration_of : List ℕ → Value
+unfoldable pub duration_of : List ℕ → Option Value
 duration_of s =
-    cond (same_bytes (ascii "0") s) (Plain 1)
-    (cond (same_bytes (ascii "00") s) (Plain 0)
-    (cond (counts s) (written (number s)) Missing))
+    cond (same_bytes (ascii "0") s) (Some (Plain 1))
+    (cond (same_bytes (ascii "00") s) (Some (Plain 0))
+    (cond (counts s) (Some (written (number s))) None))

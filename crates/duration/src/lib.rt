@@ -6,66 +6,41 @@ ghost use Rattle.duration.specs.Duration.{digits, number, number_of, gcd_of, wri
 ghost use Rattle.duration.specs.Length.{value_length, dot_factor, tuplet_factor, note_length};
 
 // A written value (0 longa, 1 breve, 2 whole, .. 9 128th) with its tuplet.
-#[derive(Clone, Copy)]
+#[derive(Clone, Copy, PartialEq, Eq, Debug)]
 pub enum Value {
-    Missing,
     Plain(u8),
     Tuplet { value: u8, actual: u8, normal: u8 },
 }
 
 // A length in whole notes: a pair of whole numbers.
-#[derive(Clone, Copy)]
+#[derive(Clone, Copy, Debug)]
 pub struct Length {
     pub numerator: u32,
     pub denominator: u32,
 }
 
-// What decimal digits write; Not where a byte is no digit.
-#[derive(Clone, Copy)]
-enum Number {
-    Is(u32),
-    Not,
-}
-
-// The number that the digits write.
-fn parse(digits: &[u8]) -> Number
+// The number that the digits write; None where a byte is no digit.
+fn parse(digits: &[u8]) -> Option<u32>
     requires { length digits.now ≤ 4 }
     ensures { result ≡ number_of digits.now }
 {
-    let mut n = 0u32;
-    let mut i = 0;
-    while i < digits.len() {
-        let d = digits[i];
-        if d < 48 {
-            return Number::Not;
+    let mut n = 0;
+    for d in digits {
+        if !d.is_ascii_digit() {
+            return None;
         }
-        if 57 < d {
-            return Number::Not;
-        }
-        n = n * 10 + (d - 48) as u32;
-        i += 1;
+        n = n * 10 + u32::from(*d - b'0');
     }
-    Number::Is(n)
-}
-
-// The exponent of the largest power of two not above n.
-fn exponent(n: u32) -> u32
-    requires { 1 ≤ n }
-    ensures { (2 ^ result ≤ n) × (n < 2 ^ (result + 1)) }
-{
-    31 - u32::leading_zeros(n)
+    Some(n)
 }
 
 // The greatest common divisor.
 pub fn gcd(n: u32, d: u32) -> u32
     ensures { result ≡ gcd_of n d }
 {
-    let mut a = n;
-    let mut b = d;
+    let (mut a, mut b) = (n, d);
     while b != 0 {
-        let t = a % b;
-        a = b;
-        b = t;
+        (a, b) = (b, a % b);
     }
     a
 }
@@ -75,7 +50,7 @@ fn value_of(n: u32) -> Value
     requires { (1 ≤ n) × (n ≤ 255) }
     ensures { result ≡ written n }
 {
-    let k = exponent(n);
+    let k = n.ilog2();
     let base = 1u32 << k;
     let value = (k + 2) as u8;
     if n == base {
@@ -89,88 +64,58 @@ fn value_of(n: u32) -> Value
     }
 }
 
-// The value of a reciprocal of so many digits that write n; Missing where there is none.
-pub fn value_by(n: u32, long: usize) -> Value
+// The value of a reciprocal of so many digits that write n; None where there is none.
+pub fn value_by(n: u32, long: usize) -> Option<Value>
     ensures { (s : List ℕ) → digits s ≡ true → number s ≡ n → length s ≡ long → result ≡ duration_of s }
 {
-    if 4 < long {
-        return Value::Missing;
+    match (n, long) {
+        (0, 1) => Some(Value::Plain(1)),
+        (0, 2) => Some(Value::Plain(0)),
+        (1..=255, 0..=4) => Some(value_of(n)),
+        _ => None,
     }
-    if n == 0 {
-        if long == 1 {
-            return Value::Plain(1);
-        }
-        let longa = long == 2;
-        if longa {
-            return Value::Plain(0);
-        }
-        return Value::Missing;
-    }
-    let beyond = 255 < n;
-    if beyond {
-        return Value::Missing;
-    }
-    value_of(n)
 }
 
-// The value that a reciprocal's digits write; Missing where they write none.
-pub fn kern_duration(digits: &[u8]) -> Value
+// The value that a reciprocal's digits write; None where they write none.
+pub fn kern_duration(digits: &[u8]) -> Option<Value>
     ensures { result ≡ duration_of digits.now }
 {
     if 4 < digits.len() {
-        return Value::Missing;
+        return None;
     }
-    match parse(digits) {
-        Number::Not => Value::Missing,
-        Number::Is(n) => value_by(n, digits.len()),
-    }
+    value_by(parse(digits)?, digits.len())
 }
 
 // A value's length.
+#[tactic(auto, using(crate::proofs::Lengths::value_shift), unfolding(crate::specs::Length::value_length))]
 fn value_length(value: u8) -> Length
     ensures { result ≡ value_length value }
 {
-    if 9 < value {
-        return Length {
-            numerator: 4,
-            denominator: 512,
-        };
-    }
     Length {
         numerator: 4,
-        denominator: 1u32 << value,
+        denominator: 1u32 << value.min(9),
     }
 }
 
 // The factor of the dots.
+#[tactic(auto, using(crate::proofs::Lengths::dots_last), unfolding(crate::specs::Length::dot_factor))]
 fn dot_factor(dots: u8) -> Length
     ensures { result ≡ dot_factor dots }
 {
-    if dots == 0 {
-        return Length {
-            numerator: 1,
-            denominator: 1,
-        };
-    }
-    if dots == 1 {
-        return Length {
-            numerator: 3,
-            denominator: 2,
-        };
-    }
-    if dots == 2 {
-        return Length {
-            numerator: 7,
-            denominator: 4,
-        };
-    }
+    let (numerator, denominator) = match dots {
+        0 => (1, 1),
+        1 => (3, 2),
+        2 => (7, 4),
+        _ => (15, 8),
+    };
     Length {
-        numerator: 15,
-        denominator: 8,
+        numerator,
+        denominator,
     }
 }
 
 // The factor of the tuplet.
+#[tactic(auto, unfolding(crate::specs::Length::tuplet_factor))]
 fn tuplet_factor(actual: u8, normal: u8) -> Length
     ensures { result ≡ tuplet_factor actual normal }
 {
@@ -181,8 +126,8 @@ fn tuplet_factor(actual: u8, normal: u8) -> Length
         };
     }
     Length {
-        numerator: normal as u32,
-        denominator: actual as u32,
+        numerator: u32::from(normal),
+        denominator: u32::from(actual),
     }
 }
 

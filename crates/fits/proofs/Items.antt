@@ -11,11 +11,11 @@ use borrow.Author.Tests.{ltb-true}
 use Rattle.sheet.specs.Fits.{All, U8}
 use Rattle.duration.specs.Duration.{duration_of}
 use Rattle.duration.specs.declared.Value.{Value}
-use Rattle.duration.specs.declared.Value.TheVariants.{Missing, Plain, Tuplet}
+use Rattle.duration.specs.declared.Value.TheVariants.{Plain, Tuplet}
+use Rattle.std.specs.Prelude.{Option, Some, None}
 use Rattle.duration.proofs.Lowest.{duration_tuplet, duration_value}
 use Rattle.pitch.specs.Pitch.{pitch_of, twos_complement}
 use Rattle.pitch.specs.declared.Pitch.{Pitch}
-use Rattle.pitch.specs.declared.Pitch.TheVariants.{At, Outside}
 use Rattle.pitch.proofs.PitchLaws.{pitch_bounds}
 use Rattle.pitch.proofs.SignLaws.{altered_byte}
 use Rattle.items.specs.Items.{is_digit, is_letter, joins, into, runs, item_of, items_of, items}
@@ -23,24 +23,22 @@ use Rattle.items.specs.declared.Item.{Item}
 use Rattle.items.specs.declared.Item.TheVariants.{Digits, Letters, Blank, Mark}
 use Rattle.token.specs.Token.{fits, passes, begun, signed, given, heard, signifiers, articulation, articulations_in}
 use Rattle.token.specs.declared.pitches.Tone.{Tone}
-use Rattle.token.specs.declared.pitches.Sound.{Sound}
-use Rattle.token.specs.declared.pitches.Sound.TheVariants.{Silence, Of}
 use Rattle.fits.proofs.Each.{all_append}
 
 -- ---- values
 
-abbrev pub ValueFits : Value → Type 0
-ValueFits Missing = Unit {0}
-ValueFits (Plain v) = U8 v
-ValueFits (Tuplet v a n) = U8 v × U8 a × U8 n
+abbrev pub ValueFits : Option Value → Type 0
+ValueFits None = Unit {0}
+ValueFits (Some (Plain v)) = U8 v
+ValueFits (Some (Tuplet v a n)) = U8 v × U8 a × U8 n
 
 pub value_fits : (s : List ℕ) → ValueFits (duration_of s)
 value_fits s = go (duration_of s) refl
   where
-    go : (v : Value) → duration_of s ≡ v → ValueFits v
-    go Missing e = tt
-    go (Plain v) e = omega (arith, duration_value s v e)
-    go (Tuplet v a n) e =
+    go : (v : Option Value) → duration_of s ≡ v → ValueFits v
+    go None e = tt
+    go (Some (Plain v)) e = omega (arith, duration_value s v e)
+    go (Some (Tuplet v a n)) e =
         let r = (duration_tuplet s v a n e).1 in
         (omega (arith, r.value.1), omega (arith, r.actual_range.1), omega (arith, r.normal_range.1))
 
@@ -103,32 +101,32 @@ articulations_fit (b ∷ bs) = go (ltb (articulation b) 5) refl (articulations_f
 abbrev pub ToneFits : Tone → Type 0
 ToneFits t = U8 t.step × U8 t.octave × U8 t.alter
 
-abbrev SoundFits : Sound → Type 0
-SoundFits Silence = Unit {0}
-SoundFits (Of t) = ToneFits t
+abbrev SoundFits : Option Tone → Type 0
+SoundFits None = Unit {0}
+SoundFits (Some t) = ToneFits t
 
-begun_fits : (s : Sound) (c n : ℕ) → SoundFits s → SoundFits (begun s (pitch_of c n))
+begun_fits : (s : Option Tone) (c n : ℕ) → SoundFits s → SoundFits (begun s (pitch_of c n))
 begun_fits s c n h = go s h (pitch_of c n) refl
   where
-    go : (s : Sound) → SoundFits s → (p : Pitch) → p ≡ pitch_of c n → SoundFits (begun s p)
-    go Silence h (At step octave) e = let b = pitch_bounds c n step octave e in (omega arith, omega arith, omega arith)
-    go Silence h Outside e = tt
-    go (Of t) h p e = h
+    go : (s : Option Tone) → SoundFits s → (p : Option Pitch) → p ≡ pitch_of c n → SoundFits (begun s p)
+    go None h (Some p) e = let b = pitch_bounds c n p e in (omega arith, omega arith, omega arith)
+    go None h None e = tt
+    go (Some t) h p e = h
 
-signed_fits : (s : Sound) (b : ℕ) → SoundFits s → SoundFits (signed s b)
-signed_fits Silence b h = tt
-signed_fits (Of t) b h = (h.0, h.1, altered_byte t.alter b h.2)
+signed_fits : (s : Option Tone) (b : ℕ) → SoundFits s → SoundFits (signed s b)
+signed_fits None b h = tt
+signed_fits (Some t) b h = (h.0, h.1, altered_byte t.alter b h.2)
 
-given_fits : (s : Sound) → SoundFits s → All ToneFits (given s)
-given_fits Silence h = tt
-given_fits (Of t) h = (h, tt)
+given_fits : (s : Option Tone) → SoundFits s → All ToneFits (given s)
+given_fits None h = tt
+given_fits (Some t) h = (h, tt)
 
-pub heard_fits : (s : Sound) (is : List Item) → SoundFits s → All ToneFits (heard s is)
+pub heard_fits : (s : Option Tone) (is : List Item) → SoundFits s → All ToneFits (heard s is)
 unfolding heard
 heard_fits s [] h = given_fits s h
 heard_fits s (Digits v ∷ is) h = heard_fits s is h
 heard_fits s (Letters c n ∷ is) h = heard_fits (begun s (pitch_of c n)) is (begun_fits s c n h)
-heard_fits s (Blank ∷ is) h = all_append ToneFits (given s) (heard Silence is) (given_fits s h) (heard_fits Silence is tt)
+heard_fits s (Blank ∷ is) h = all_append ToneFits (given s) (heard None is) (given_fits s h) (heard_fits None is tt)
 heard_fits s (Mark b ∷ is) h = heard_fits (signed s b) is (signed_fits s b h)
 
 pub alter_fits : (a : ℕ) → U8 (twos_complement a)

@@ -13,12 +13,10 @@ use Rattle.notation.specs.declared.beam.Mark.{Mark}
 use Rattle.notation.specs.declared.beam.Mark.TheVariants.{None, Begin, Continue, End}
 use Rattle.items.specs.Items.{items}
 use Rattle.token.specs.Token.{bad_length, rest_of, pitches_of, marks, signifiers_of}
-use Rattle.token.specs.Outcome.{read_token, reported, note_pitches}
+use Rattle.token.specs.Outcome.{Outcome, notice_number, read_token, reported, note_pitches}
 use Rattle.token.specs.declared.pitches.Tone.{Tone}
-use Rattle.token.specs.declared.pitches.Sound.TheVariants.{Silence}
 use Rattle.token.specs.declared.outcome.Note.{Note}
-use Rattle.token.specs.declared.outcome.Outcome.{Outcome}
-use Rattle.token.specs.declared.outcome.Outcome.TheVariants.{Silent, Unread, Heard}
+use Rattle.std.specs.Prelude.{Some, None, Ok, Err}
 use Rattle.token.proofs.AccountLaws.{Listed, lists_agree}
 use Rattle.paths.specs.Row.{Spine, line, branch, outside}
 use Rattle.reading.specs.State.{State, Result, Step, refused, goes, ends, part_at, with_part, with_notes}
@@ -63,7 +61,7 @@ tone_pitch t h = (h.0, (h.1, (alter_fits t.alter, tt)))
 
 note_tones : (token : List ℕ) → All ToneFits (note_pitches token)
 note_tones token =
-    either (All ToneFits) (rest_of (items token)) [] (pitches_of (items token)) tt (heard_fits Silence (items token) tt)
+    either (All ToneFits) (rest_of (items token)) [] (pitches_of (items token)) tt (heard_fits None (items token) tt)
 
 note_fits : {m : ℕ} (p v k j : ℕ) (t : Token) (n : Note) (st : State) → U8 p → U8 v → U32 k → U16 j → m < 134217728 → TokenFits t → Sized n
     → Listed t.bytes n → Good m st → Fits (note_record p v k j t.bytes n st)
@@ -149,9 +147,9 @@ module _ {m : ℕ} (p v k j : ℕ) (t : Token) (hp : U8 p) (hv : U8 v) (hk : U32
 
   by_outcome_lem : (peers : List ℕ) (o : Outcome) (st : State) → read_token t.bytes peers ≡ o → OutcomeFits o → Good m st
       → FineStep m (by_outcome o p v k j t st)
-  by_outcome_lem peers Silent st e h g = going (fine_quiet g)
-  by_outcome_lem peers (Unread number) st e h g = going (fine_notify number k j (span_of_token t) h hk hj (token_span f) g)
-  by_outcome_lem peers (Heard n) st e h g = fine_note n st h (lists_agree t.bytes peers n e) g
+  by_outcome_lem peers (Ok None) st e h g = going (fine_quiet g)
+  by_outcome_lem peers (Err why) st e h g = going (fine_notify (notice_number why) k j (span_of_token t) h hk hj (token_span f) g)
+  by_outcome_lem peers (Ok (Some n)) st e h g = fine_note n st h (lists_agree t.bytes peers n e) g
 
 fine_signify : {m : ℕ} (bs : List ℕ) (k j : ℕ) (st : State) → U32 k → U16 j → U32 (length bs) → All U8 bs → Good m st → Fine m (signify bs k j st)
 fine_signify [] k j st hk hj l h g = fine_quiet g

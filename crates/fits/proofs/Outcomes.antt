@@ -8,19 +8,20 @@ use lib.Dec.{eqb}
 use Rattle.sheet.specs.Fits.{All, U8}
 use Rattle.duration.specs.Duration.{duration_of}
 use Rattle.duration.specs.declared.Value.{Value}
-use Rattle.duration.specs.declared.Value.TheVariants.{Missing, Plain, Tuplet}
+use Rattle.duration.specs.declared.Value.TheVariants.{Plain, Tuplet}
 use Rattle.items.specs.Items.{items}
 use Rattle.items.specs.declared.Item.{Item}
 use Rattle.items.specs.declared.Item.TheVariants.{Digits, Letters, Blank, Mark}
-use Rattle.token.specs.Token.{is_blank, up_to_blank, first_sub, given_in, dots_of}
+use Rattle.token.specs.Token.{is_blank, given_by, up_to_blank, first_sub, given_in, dots_of}
 use Rattle.token.specs.Scan.{scan_items, scan_of}
-use Rattle.token.specs.Outcome.{note_of, by_value, noted, from_peers, without_digits, by_given, measured, outcome_of, read_token}
+use Rattle.token.specs.Outcome.{Outcome, notice_number, noted_as, note_of, by_value, noted, from_peers, without_digits, by_given, measured, outcome_of, read_token}
 use Rattle.token.specs.declared.scan.Scan.{Scan}
 use Rattle.token.specs.declared.scan.Given.{Given}
-use Rattle.token.specs.declared.scan.Given.TheVariants.{Nothing, Length}
+use Rattle.token.specs.declared.scan.Given.TheVariants.{Nothing, NoValue, Length}
 use Rattle.token.specs.declared.outcome.Note.{Note}
-use Rattle.token.specs.declared.outcome.Outcome.{Outcome}
-use Rattle.token.specs.declared.outcome.Outcome.TheVariants.{Silent, Unread, Heard}
+use Rattle.std.specs.Prelude.{Option, Some, None, Ok, Err}
+use Rattle.token.specs.declared.outcome.Unread.{Unread}
+use Rattle.token.specs.declared.outcome.Unread.TheVariants.{BadLength, NoPitch, BadReciprocal, NoLength}
 use Rattle.fits.proofs.Items.{ValueFits, ItemFits, value_fits, items_fit}
 
 -- a notice's number whose NOTICE no bytes follow
@@ -35,9 +36,15 @@ pub record Sized (n : Note) : Type 0 where
   pub dots : U8 n.dots
 
 abbrev pub OutcomeFits : Outcome → Type 0
-OutcomeFits Silent = Unit {0}
-OutcomeFits (Unread n) = Plainly n
-OutcomeFits (Heard n) = Sized n
+OutcomeFits (Ok None) = Unit {0}
+OutcomeFits (Err why) = Plainly (notice_number why)
+OutcomeFits (Ok (Some n)) = Sized n
+
+plainly : (why : Unread) → Plainly (notice_number why)
+plainly BadLength = (omega arith, refl)
+plainly NoPitch = (omega arith, refl)
+plainly BadReciprocal = (omega arith, refl)
+plainly NoLength = (omega arith, refl)
 
 -- ---- the first sub-token
 
@@ -61,12 +68,17 @@ first_fits (i ∷ is) h = go (is_blank i) (first_fits is h.1) (up_fits is h.1)
 
 abbrev GivenFits : Given → Type 0
 GivenFits Nothing = Unit {0}
-GivenFits (Length v) = ValueFits v
+GivenFits NoValue = Unit {0}
+GivenFits (Length v) = ValueFits (Some v)
+
+given_by_lem : (v : Option Value) → ValueFits v → GivenFits (given_by v)
+given_by_lem None h = tt
+given_by_lem (Some v) h = h
 
 given_in_lem : (is : List Item) → All ItemFits is → GivenFits (given_in is)
 unfolding given_in
 given_in_lem [] h = tt
-given_in_lem (Digits v ∷ is) h = h.0
+given_in_lem (Digits v ∷ is) h = given_by_lem v h.0
 given_in_lem (Letters c n ∷ is) h = given_in_lem is h.1
 given_in_lem (Blank ∷ is) h = given_in_lem is h.1
 given_in_lem (Mark b ∷ is) h = given_in_lem is h.1
@@ -82,29 +94,30 @@ module _ (s : Scan) (few : U8 s.dots) where
   unfolding note_of
   note_of_lem i v a n h k l = record { value = h; actual = k; normal = l; dots = few }
 
-  value_sized : (number : ℕ) (i : Bool) (v : Value) → Plainly number → ValueFits v → OutcomeFits (by_value number i v s)
-  value_sized number i Missing p h = p
-  value_sized number i (Plain v) p h = note_of_lem i v 0 0 h (omega arith) (omega arith)
-  value_sized number i (Tuplet v a n) p h = note_of_lem i v a n h.0 h.1 h.2
+  value_sized : (why : Unread) (i : Bool) (v : Option Value) → ValueFits v → OutcomeFits (by_value why i v s)
+  value_sized why i None h = plainly why
+  value_sized why i (Some (Plain v)) h = note_of_lem i v 0 0 h (omega arith) (omega arith)
+  value_sized why i (Some (Tuplet v a n)) h = note_of_lem i v a n h.0 h.1 h.2
 
-  by_given_lem : (g : Given) (v : Value) → GivenFits g → ValueFits v → OutcomeFits (by_given g s v)
+  by_given_lem : (g : Given) (v : Option Value) → GivenFits g → ValueFits v → OutcomeFits (by_given g s v)
   unfolding without_digits
   by_given_lem Nothing v g h = go (eqb s.grace 0)
     where
-      go : (t : Bool) → OutcomeFits (cond t (from_peers v s) (noted (Plain 5) s))
-      go true = value_sized 21 true v (omega arith, refl) h
-      go false = value_sized 19 false (Plain 5) (omega arith, refl) (omega arith)
-  by_given_lem (Length w) v g h = value_sized 19 false w (omega arith, refl) g
+      go : (t : Bool) → OutcomeFits (cond t (from_peers v s) (noted (Some (Plain 5)) s))
+      go true = value_sized NoLength true v h
+      go false = value_sized BadReciprocal false (Some (Plain 5)) (omega arith)
+  by_given_lem NoValue v g h = plainly BadReciprocal
+  by_given_lem (Length w) v g h = value_sized BadReciprocal false (Some w) g
 
-  outcome_fits : (v : Value) → GivenFits s.given → ValueFits v → OutcomeFits (outcome_of s v)
+  outcome_fits : (v : Option Value) → GivenFits s.given → ValueFits v → OutcomeFits (outcome_of s v)
   unfolding outcome_of
   outcome_fits v g h = go s.silent s.bad s.rest (eqb s.pitches 0) (measured s v) (by_given_lem s.given v g h)
     where
-      go : (a b c d : Bool) (m : Outcome) → OutcomeFits m → OutcomeFits (cond a Silent (cond b (Unread 16) (cond c m (cond d (Unread 18) m))))
+      go : (a b c d : Bool) (m : Outcome) → OutcomeFits m → OutcomeFits (cond a (Ok None) (cond b (Err BadLength) (cond c m (cond d (Err NoPitch) m))))
       go true b c d m k = tt
-      go false true c d m k = (omega arith, refl)
+      go false true c d m k = plainly BadLength
       go false false true d m k = k
-      go false false false true m k = (omega arith, refl)
+      go false false false true m k = plainly NoPitch
       go false false false false m k = k
 
 pub token_fits : (token peers : List ℕ) → All U8 token → OutcomeFits (read_token token peers)

@@ -13,6 +13,7 @@ use Rattle.pitch.specs.Pitch.{within}
 use Rattle.pitch.proofs.Letters.{within_low}
 use Rattle.duration.specs.Duration.{duration_of}
 use Rattle.duration.specs.declared.Value.{Value}
+use Rattle.std.specs.Prelude.{Option}
 use Rattle.items.specs.Items.{is_digit, is_letter, joins, more, first, next_item}
 use Rattle.items.specs.declared.Item.TheVariants.{Digits, Letters, Blank, Mark}
 use Rattle.items.proofs.ItemLaws.{item_digits, item_letters, item_blank, item_mark}
@@ -101,7 +102,7 @@ module _ (s : List ℕ) (i : ℕ) (h : i < length s) where
     start_is : get_or (take (e - i) (drop i s)) 0 0 ≡ get_or s i 0
     start_is = get_or-take (e - i) (drop i s) 0 0 (omega (arith, end_on)) ∙ get_or-drop i s 0 0 ∙ ap (λ (k : ℕ). get_or s k 0) (add-zero i)
 
-    pub next_digits : {d : Bool} {v : Value} → d ≡ is_digit (get_or s i 0) → d ≡ true → v ≡ duration_of (take (e - i) (drop i s))
+    pub next_digits : {d : Bool} {v : Option Value} → d ≡ is_digit (get_or s i 0) → d ≡ true → v ≡ duration_of (take (e - i) (drop i s))
         → record { item = Digits v; end = e } ≡ next_item s i
     next_digits q y v = next_is s i p (item_digits (take (e - i) (drop i s)) (λ z. omega (arith, end_on, some)) (rw start_is q) y v)
 

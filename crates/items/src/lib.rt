@@ -6,49 +6,47 @@ ghost use Rattle.items.specs.Items.{is_digit, is_letter, joins, item_of, first, 
 
 use duration::Value;
 
-#[derive(Clone, Copy)]
+#[derive(Clone, Copy, PartialEq, Eq, Debug)]
 pub enum Item {
-    Digits(Value),
+    Digits(Option<Value>),
     Letters { letter: u8, count: usize },
     Blank,
     Mark(u8),
 }
 
 // An item, and the index behind it.
-#[derive(Clone, Copy)]
+#[derive(Clone, Copy, PartialEq, Eq, Debug)]
 pub struct Next {
     pub item: Item,
     pub end: usize,
 }
 
 // Whether a byte is a digit.
+#[tactic(auto, unfolding(pitch::specs::Pitch::within))]
 pub fn is_digit(b: u8) -> bool
     ensures { result ≡ is_digit b }
 {
-    pitch::within(b'0', b'9', b)
+    b.is_ascii_digit()
 }
 
 // Whether a byte is a letter of a step.
+#[tactic(auto, using(std::proofs::lemmas::Bool::Decides::nat_tests), unfolding(crate::specs::Items::is_letter, pitch::specs::Pitch::within))]
 pub fn is_letter(b: u8) -> bool
     ensures { result ≡ is_letter b }
 {
-    if pitch::within(b'a', b'g', b) {
-        return true;
-    }
-    pitch::within(b'A', b'G', b)
+    matches!(b, b'a'..=b'g' | b'A'..=b'G')
 }
 
 // Whether a and the byte b right behind it stand in one run.
+#[tactic(auto, unfolding(crate::specs::Items::joins))]
 fn joins(a: u8, b: u8) -> bool
     ensures { result ≡ joins a b }
 {
-    if pitch::within(b'0', b'9', a) {
-        return pitch::within(b'0', b'9', b);
+    if is_digit(a) {
+        is_digit(b)
+    } else {
+        is_letter(a) && b == a
     }
-    if is_letter(a) {
-        return b == a;
-    }
-    false
 }
 
 // The end of the run that begins at an index; the index itself past the end.
@@ -106,24 +104,15 @@ pub fn letter_end(token: &[u8], from: usize) -> usize
 fn item_of(run: &[u8]) -> Item
     ensures { result ≡ item_of run.now }
 {
-    if run.len() == 0 {
-        return Item::Blank;
-    }
-    let b = run[0];
-    if pitch::within(b'0', b'9', b) {
-        return Item::Digits(duration::kern_duration(run));
-    }
-    if is_letter(b) {
-        return Item::Letters {
-            letter: b,
+    match run {
+        [] | [b' ', ..] => Item::Blank,
+        [b, ..] if is_digit(*b) => Item::Digits(duration::kern_duration(run)),
+        [letter, ..] if is_letter(*letter) => Item::Letters {
+            letter: *letter,
             count: run.len(),
-        };
+        },
+        [b, ..] => Item::Mark(*b),
     }
-    let blank = b == b' ';
-    if blank {
-        return Item::Blank;
-    }
-    Item::Mark(b)
 }
 
 // The item that begins at an index.

@@ -34,18 +34,20 @@ fn small_number(s: &[u8]) -> u64 {
 // D: digits, to value, actual, normal.
 fn duration_of(digits: &[u8]) {
     match duration::kern_duration(digits) {
-        Value::Missing => {
+        None => {
             print(b"-");
         }
-        Value::Plain(value) => {
+        Some(Value::Plain(value)) => {
             io::print_decimal(1, value as u64);
             print(b" 0 0");
         }
-        Value::Tuplet {
-            value,
-            actual,
-            normal,
-        } => {
+        Some(
+            Value::Tuplet {
+                value,
+                actual,
+                normal,
+            },
+        ) => {
             io::print_decimal(1, value as u64);
             next_number(actual as u64);
             next_number(normal as u64);
@@ -59,10 +61,10 @@ fn pitch_of(run: &[u8]) {
         return;
     }
     match pitch::pitch_of(run[0], run.len()) {
-        Pitch::Outside => {
+        None => {
             print(b"-");
         }
-        Pitch::At { step, octave } => {
+        Some(Pitch { step, octave }) => {
             io::print_decimal(1, step as u64);
             next_number(octave as u64);
         }

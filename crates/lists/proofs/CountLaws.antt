@@ -12,12 +12,12 @@ use Rattle.items.specs.declared.Item.{Item}
 use Rattle.token.specs.Token.{rest_of, pitches_of, heard}
 use Rattle.token.specs.Scan.{scan_items, scan_of}
 use Rattle.token.specs.declared.scan.Scan.{Scan}
-use Rattle.token.specs.declared.pitches.Sound.{Sound}
-use Rattle.token.specs.declared.pitches.Sound.TheVariants.{Silence}
+use Rattle.token.specs.declared.pitches.Tone.{Tone}
+use Rattle.std.specs.Prelude.{Option, None}
 use Rattle.lists.specs.Lists.{tone_bytes, pitch_bytes, articulation_bytes, signifier_bytes, ended_by, sound_after}
 use Rattle.lists.proofs.ItemLaws.{tones_length, heard_more}
 
-pub note_bytes_lem : (token : List ℕ) → rest_of (items token) ≡ false → tone_bytes (heard Silence (items token)) ≡ pitch_bytes token
+pub note_bytes_lem : (token : List ℕ) → rest_of (items token) ≡ false → tone_bytes (heard None (items token)) ≡ pitch_bytes token
 note_bytes_lem token h = sym (ap (λ (t : Bool). tone_bytes (cond t [] (pitches_of (items token)))) h)
 
 module _ {s : Scan} (token : List ℕ) (e : s ≡ scan_of token) where
@@ -54,8 +54,8 @@ module _ {s : Scan} (token : List ℕ) (e : s ≡ scan_of token) where
   pitches_fit old h l = omega (arith, pitches_length h)
 
 -- what is left behind an item, with the state that the code has there
-abbrev pub heard_bytes : Sound → List Item → List ℕ
+abbrev pub heard_bytes : Option Tone → List Item → List ℕ
 heard_bytes s is = tone_bytes (heard s is)
 
-pub heard_next : (s : Sound) {t : Sound} (i : Item) → t ≡ sound_after s i → (is : List Item) → heard_bytes s (i ∷ is) ≡ ended_by s i ++ heard_bytes t is
-heard_next s {t} i e is = heard_more s i is ∙ ap (λ (x : Sound). ended_by s i ++ heard_bytes x is) (sym e)
+pub heard_next : (s : Option Tone) {t : Option Tone} (i : Item) → t ≡ sound_after s i → (is : List Item) → heard_bytes s (i ∷ is) ≡ ended_by s i ++ heard_bytes t is
+heard_next s {t} i e is = heard_more s i is ∙ ap (λ (x : Option Tone). ended_by s i ++ heard_bytes x is) (sym e)

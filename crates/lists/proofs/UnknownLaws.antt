@@ -17,8 +17,8 @@ use Rattle.items.specs.declared.Item.TheVariants.{Mark}
 use Rattle.items.proofs.RunLaws.{next_at}
 use Rattle.token.specs.Token.{is_unknown, passes, signed, heard, signifiers}
 use Rattle.scan.specs.Steps.{Unknowns}
-use Rattle.token.specs.declared.pitches.Sound.{Sound}
-use Rattle.token.specs.declared.pitches.Sound.TheVariants.{Silence, Of}
+use Rattle.token.specs.declared.pitches.Tone.{Tone}
+use Rattle.std.specs.Prelude.{Option, Some, None}
 use Rattle.scan.proofs.UnknownLaws.{plain, is_not, next_unknown}
 use Rattle.lists.specs.Lists.{tone_bytes}
 use Rattle.lists.proofs.FillLaws.{fill_as, fill_room, fill_turn, Writing}
@@ -29,10 +29,10 @@ module _ (b : ℕ) (o : is_unknown b ≡ true) where
   unfolding passes
   unknown_fails t = rw ((plain b o).2, (plain b o).3)
 
-  unsigned : (s : Sound) → signed s b ≡ s
+  unsigned : (s : Option Tone) → signed s b ≡ s
   unfolding altered_by is_unknown contains is_letter within
-  unsigned Silence = refl
-  unsigned (Of t) = rw (is_not b o 35 refl, is_not b o 45 refl, is_not b o 110 refl)
+  unsigned None = refl
+  unsigned (Some t) = rw (is_not b o 35 refl, is_not b o 45 refl, is_not b o 110 refl)
 
 -- ---- so many of them
 module _ (token : List ℕ) where
@@ -51,7 +51,7 @@ module _ (token : List ℕ) where
       ∙ ap (λ (l : List ℕ). b ∷ l) (run_signifiers t n (i + 1) (λ j l u. unknown j (omega arith) (omega arith)) (omega arith))
       ∙ rw (at_index token i (omega arith), k)
 
-  run_heard : (s : Sound) (n i : ℕ) → ((j : ℕ) → i ≤ j → j < i + n → is_unknown (get_or token j 0) ≡ true) → i + n ≤ length token
+  run_heard : (s : Option Tone) (n i : ℕ) → ((j : ℕ) → i ≤ j → j < i + n → is_unknown (get_or token j 0) ≡ true) → i + n ≤ length token
       → heard s (items (drop i token)) ≡ heard s (items (drop (i + n) token))
   unfolding heard
   run_heard s zero i unknown h = rw (add-zero i)
@@ -59,7 +59,7 @@ module _ (token : List ℕ) where
       let o : is_unknown (get_or token i 0) ≡ true = unknown i (omega arith) (omega arith) in
       let k : i + suc n ≡ i + 1 + n = omega arith in
       ap (heard s) (items_unknown i (omega arith) o)
-      ∙ ap (λ (x : Sound). heard x (items (drop (i + 1) token))) (unsigned (get_or token i 0) o s)
+      ∙ ap (λ (x : Option Tone). heard x (items (drop (i + 1) token))) (unsigned (get_or token i 0) o s)
       ∙ run_heard s n (i + 1) (λ j l u. unknown j (omega arith) (omega arith)) (omega arith)
       ∙ rw k
 
@@ -76,7 +76,7 @@ module _ {token : List ℕ} {i end : ℕ} (unknowns : Unknowns token i end) wher
       run_signifiers token t (end - i) i each_unknown (omega (arith, here, unknowns.high))
       ∙ ap (λ (e : ℕ). piece_at token i (end - i) ++ signifiers t (items (drop e token))) here
 
-  unknown_heard : (s : Sound) → heard s (items (drop i token)) ≡ heard s (items (drop end token))
+  unknown_heard : (s : Option Tone) → heard s (items (drop i token)) ≡ heard s (items (drop end token))
   unknown_heard s =
       run_heard token s (end - i) i each_unknown (omega (arith, here, unknowns.high)) ∙ ap (λ (e : ℕ). heard s (items (drop e token))) here
 
@@ -92,5 +92,5 @@ module _ {token : List ℕ} {i end : ℕ} (unknowns : Unknowns token i end) wher
           fill = fill_turn (piece_at token i (end - i)) (signifiers t (items (drop end token))) (fill_as (unknown_signifiers t) inv.fill) e p;
         }
 
-  pub unknowns_past : {old all out : List ℕ} {k : ℕ} (s : Sound) → Writing old all out token k i (heard_bytes s) → Writing old all out token k end (heard_bytes s)
+  pub unknowns_past : {old all out : List ℕ} {k : ℕ} (s : Option Tone) → Writing old all out token k i (heard_bytes s) → Writing old all out token k end (heard_bytes s)
   unknowns_past s inv = record { high = unknowns.high; fill = fill_as (ap tone_bytes (unknown_heard s)) inv.fill }

@@ -9,7 +9,7 @@ ghost use Rattle.token.specs.Token.{rest_of, articulations_in, begun, signed};
 ghost use Rattle.lists.specs.Lists.{pitch_bytes, articulation_bytes, signifier_bytes, sound_bytes};
 
 use pitch::Pitch;
-use token::pitches::{Sound, Tone};
+use token::pitches::Tone;
 
 // The articulation of a byte, at k; the place behind it.
 fn put_articulation(out: &mut [u8], k: usize, b: u8) -> usize
@@ -116,15 +116,15 @@ pub fn put_signifiers(out: &mut [u8], token: &[u8])
 }
 
 // The three bytes of a pitch, if there is one, at k; the place behind them.
-fn put_sound(out: &mut [u8], k: usize, s: Sound) -> usize
+fn put_sound(out: &mut [u8], k: usize, s: Option<Tone>) -> usize
     requires { k + length (sound_bytes s) ≤ length out.old }
     ensures { (out.new ≡ sets out.old k (sound_bytes s)) × (result ≡ k + length (sound_bytes s)) }
 {
     match s {
-        Sound::Silence => {
+        None => {
             return k;
         }
-        Sound::Of(t) => {
+        Some(t) => {
             out[k] = t.step;
             out[k + 1] = t.octave;
             out[k + 2] = pitch::alter_byte(t.alter);
@@ -134,47 +134,28 @@ fn put_sound(out: &mut [u8], k: usize, s: Sound) -> usize
 }
 
 // The sub-token's pitch after a run of letters.
-fn begin(s: Sound, p: Pitch) -> Sound
+fn begin(s: Option<Tone>, p: Option<Pitch>) -> Option<Tone>
     ensures { result ≡ begun s p }
 {
-    match s {
-        Sound::Of(t) => {
-            return Sound::Of(t);
-        }
-        Sound::Silence => {
-            match p {
-                Pitch::At { step, octave } => {
-                    return Sound::Of(Tone {
-                        step,
-                        octave,
-                        alter: 128,
-                    });
-                }
-                Pitch::Outside => {
-                    return Sound::Silence;
-                }
-            }
-        }
+    match (s, p) {
+        (None, Some(p)) => Some(Tone {
+            step: p.step,
+            octave: p.octave,
+            alter: 128,
+        }),
+        _ => s,
     }
 }
 
 // The sub-token's pitch after a mark.
-fn sign(s: Sound, b: u8) -> Sound
+fn sign(s: Option<Tone>, b: u8) -> Option<Tone>
     ensures { result ≡ signed s b }
 {
-    match s {
-        Sound::Silence => {
-            return Sound::Silence;
-        }
-        Sound::Of(t) => {
-            let alter = pitch::altered(t.alter, b);
-            return Sound::Of(Tone {
-                step: t.step,
-                octave: t.octave,
-                alter,
-            });
-        }
-    }
+    let t = s?;
+    Some(Tone {
+        alter: pitch::altered(t.alter, b),
+        ..t
+    })
 }
 
 // The pitches of a token that is no rest, for which there is room.
@@ -182,7 +163,7 @@ pub fn fill_pitches(out: &mut [u8], token: &[u8])
     requires { (rest_of (items token.now) ≡ false) × (length (pitch_bytes token.now) ≤ length out.old) }
     ensures { out.new ≡ stored out.old (pitch_bytes token.now) }
 {
-    let mut sound = Sound::Silence;
+    let mut sound = None;
     let mut k = 0;
     let mut i = 0;
     while i < token.len() {
@@ -199,7 +180,7 @@ pub fn fill_pitches(out: &mut [u8], token: &[u8])
         }
         if b == b' ' {
             k = put_sound(out, k, sound);
-            sound = Sound::Silence;
+            sound = None;
             i += 1;
             continue;
         }

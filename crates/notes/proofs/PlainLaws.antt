@@ -4,7 +4,7 @@ use Prim.Native.Nat.{ℕ}
 use mathlib.Core.Bool.{Bool, true, false, cond}
 use mathlib.Core.List.{List, [], ◌∷◌}
 use lib.ListN.{length}
-use Rattle.duration.specs.declared.Value.TheVariants.{Missing}
+use Rattle.std.specs.Prelude.{None}
 use Rattle.token.specs.Outcome.{note_pitches}
 use Rattle.token.proofs.AccountLaws.{Listed}
 use Rattle.plain.specs.Plain.{PlainToken}
@@ -14,7 +14,7 @@ use Rattle.token.proofs.AccountLaws.{heard_lists}
 
 module _ {token : List ℕ} {p : Plain} (plain : PlainToken token p) where
   pub plain_lists : Listed token p.note
-  plain_lists = heard_lists token Missing refl (plain.outcome Missing)
+  plain_lists = heard_lists token None refl (plain.outcome None)
 
   pub plain_alone : Alone token p.tone
   plain_alone some = by_rest p.note.rest plain.pitches

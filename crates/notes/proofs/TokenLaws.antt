@@ -12,11 +12,11 @@ use Rattle.duration.specs.declared.Value.{Value}
 use Rattle.notation.specs.Beam.{beam_number, letters_of}
 use Rattle.notation.specs.declared.beam.Letters.{Letters}
 use Rattle.token.specs.Scan.{scan_of}
-use Rattle.token.specs.Outcome.{outcome_of, reported}
+use Rattle.token.specs.Outcome.{Outcome, notice_number, outcome_of, reported}
 use Rattle.token.specs.declared.scan.Scan.{Scan}
 use Rattle.token.specs.declared.outcome.Note.{Note}
-use Rattle.token.specs.declared.outcome.Outcome.{Outcome}
-use Rattle.token.specs.declared.outcome.Outcome.TheVariants.{Silent, Unread, Heard}
+use Rattle.std.specs.Prelude.{Option, Some, None, Ok, Err}
+use Rattle.token.specs.declared.outcome.Unread.{Unread}
 use Rattle.sheet.specs.Record.{Record}
 use Rattle.sheet.specs.declared.Note.{Note as NoteWritten}
 use Rattle.reading.specs.State.{Part, State, Result, goes, part_at, with_part, with_notes}
@@ -124,12 +124,12 @@ pub quiet_step : (st : State) (out : List ℕ) (at : ℕ) → going st at out �
 unfolding laid behind
 quiet_step st out at = refl
 
-pub null_step : (cells parts token out : List ℕ) (inferred : Value) (s : Spot) (t : Tally) {b : Bool} → b ≡ is_null token → b ≡ true
+pub null_step : (cells parts token out : List ℕ) (inferred : Option Value) (s : Spot) (t : Tally) {b : Bool} → b ≡ is_null token → b ≡ true
     → going (state_of cells parts t) t.at out ≡ landed (token_step token inferred s (state_of cells parts t)) out t.at
 unfolding token_step laid behind
 null_step cells parts token out inferred s t e q = sym (rw (sym e ∙ q))
 
-module _ (cells parts token : List ℕ) (inferred : Value) (s : Spot) {t u : Tally} {old new : List ℕ} {b : Bool} {scan : Scan} {o : Outcome}
+module _ (cells parts token : List ℕ) (inferred : Option Value) (s : Spot) {t u : Tally} {old new : List ℕ} {b : Bool} {scan : Scan} {o : Outcome}
     (null : b ≡ is_null token) (read : b ≡ false) (scans : scan ≡ scan_of token)
     (h : Noticed t u old new (notes.signify (reported token) s.line s.column))
     (outcome : o ≡ outcome_of scan inferred) where
@@ -142,19 +142,20 @@ module _ (cells parts token : List ℕ) (inferred : Value) (s : Spot) {t u : Tal
       (e ∙ ap (λ (x : Outcome). landed (notes.by_outcome x s.part s.voice s.line s.column (token_at s token) (state_of cells parts u)) new u.at) q)
       ∙ sym (rw (sym null ∙ read))
 
-  pub silent_step : o ≡ Silent → going (state_of cells parts u) u.at new ≡ landed (token_step token inferred s (state_of cells parts t)) old t.at
+  pub silent_step : o ≡ Ok None → going (state_of cells parts u) u.at new ≡ landed (token_step token inferred s (state_of cells parts t)) old t.at
   silent_step q =
       token_step_lem (quiet_step (state_of cells parts u) new u.at
       ∙ ap (λ (x : Outcome). landed (notes.by_outcome x s.part s.voice s.line s.column (token_at s token) (state_of cells parts u)) new u.at) (sym q))
 
-  pub unread_step : {k : ℕ} {w : Tally} {newer : List ℕ} → o ≡ Unread k
+  pub unread_step : {why : Unread} {k : ℕ} {w : Tally} {newer : List ℕ} → o ≡ Err why → k ≡ notice_number why
       → Noticed u w new newer (notify k s.line s.column (span_of_token (token_at s token)))
       → going (state_of cells parts w) w.at newer ≡ landed (token_step token inferred s (state_of cells parts t)) old t.at
-  unread_step q g =
+  unread_step q n g =
       token_step_lem (noticed_goes g cells parts
+      ∙ ap (λ (m : ℕ). landed (goes (notify m s.line s.column (span_of_token (token_at s token)) (state_of cells parts u))) new u.at) n
       ∙ ap (λ (x : Outcome). landed (notes.by_outcome x s.part s.voice s.line s.column (token_at s token) (state_of cells parts u)) new u.at) (sym q))
 
-  pub heard_step : {n : Note} {l : Landed} → o ≡ Heard n
+  pub heard_step : {n : Note} {l : Landed} → o ≡ Ok (Some n)
       → l ≡ landed (notes.add_note s.part s.voice s.line s.column (token_at s token) n (state_of cells parts u)) new u.at
       → l ≡ landed (token_step token inferred s (state_of cells parts t)) old t.at
   heard_step q e =
@@ -162,7 +163,7 @@ module _ (cells parts token : List ℕ) (inferred : Value) (s : Spot) {t u : Tal
       ∙ ap (λ (x : Outcome). landed (notes.by_outcome x s.part s.voice s.line s.column (token_at s token) (state_of cells parts u)) new u.at) (sym q))
 
 -- a token of the usual shape comes to its note, whatever length its peers give; of unknown marks no notice is kept any more
-pub plain_step : (cells parts token : List ℕ) (inferred : Value) (s : Spot) (t : Tally) (old : List ℕ) {p : Plain} {l : Landed} → PlainToken token p
+pub plain_step : (cells parts token : List ℕ) (inferred : Option Value) (s : Spot) (t : Tally) (old : List ℕ) {p : Plain} {l : Landed} → PlainToken token p
     → (p.unknown ≡ true → 1024 ≤ t.notices)
     → l ≡ landed (notes.add_note s.part s.voice s.line s.column (token_at s token) p.note (state_of cells parts t)) old t.at
     → l ≡ landed (token_step token inferred s (state_of cells parts t)) old t.at

@@ -1,5 +1,5 @@
 -- A token of a kern line: where it stands, what it comes to, and what stays as it was.
-use Rattle.std.specs.Prelude.{◌≡◌, ℕ, ◌+◌, ◌-◌, ◌/◌, ◌%◌, ◌^◌, ◌≤◌, ◌<◌, Bool, cond, List, length}
+use Rattle.std.specs.Prelude.{◌≡◌, ℕ, ◌+◌, ◌-◌, ◌/◌, ◌%◌, ◌^◌, ◌≤◌, ◌<◌, Bool, cond, List, length, Option}
 use Rattle.state.specs.Counts.{Same}
 use Rattle.lines.specs.Tokens.{is_null}
 use Rattle.duration.specs.declared.Value.{Value}
@@ -25,8 +25,8 @@ spot_at cell index line at = record { part = cell / 8 - 1; voice = cell % 8; lin
 abbrev pub token_at : Spot → List ℕ → Token
 token_at s token = record { at = s.at; bytes = token }
 
--- what a token comes to; `inferred` is the value that its peers give, Missing where they give none
-unfoldable pub token_step : List ℕ → Value → Spot → State → Step
+-- what a token comes to; `inferred` is the value that its peers give, None where they give none
+unfoldable pub token_step : List ℕ → Option Value → Spot → State → Step
 token_step token inferred s st =
     cond (is_null token) (goes (quiet st))
     (notes.behind (notes.signify (reported token) s.line s.column st)

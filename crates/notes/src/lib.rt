@@ -22,7 +22,7 @@ use notation::beam::Beam;
 use plain::Plain;
 use sheet::Span;
 use state::{Step, Tally};
-use token::outcome::{Note, Outcome};
+use token::outcome::Note;
 use token::scan::Scan;
 
 // Where a token stands: its part and voice, line and column from 1, and its offset in the text.
@@ -220,10 +220,10 @@ fn add_note(
     }
 }
 
-// The notices and the NOTE of a token of a kern line; `inferred` is the value that its peers give, Missing where they give none.
+// The notices and the NOTE of a token of a kern line; `inferred` is the value that its peers give, None where they give none.
 pub fn read_token(
     token: &[u8],
-    inferred: Value,
+    inferred: Option<Value>,
     spot: Spot,
     parts: &mut [u32],
     tally: Tally,
@@ -237,17 +237,10 @@ pub fn read_token(
     }
     let scan = scan::scan_token(token);
     let t = signify(token, scan, spot, tally, out);
-    let outcome = scan::outcome::kern_token(scan, inferred);
-    match outcome {
-        Outcome::Silent => {
-            return Step::Goes(t);
-        }
-        Outcome::Unread(number) => {
-            return Step::Goes(notify_token(token, number, spot, t, out));
-        }
-        Outcome::Heard(n) => {
-            return add_note(token, n, spot, parts, t, out);
-        }
+    match scan::outcome::kern_token(scan, inferred) {
+        Ok(None) => Step::Goes(t),
+        Ok(Some(n)) => add_note(token, n, spot, parts, t, out),
+        Err(why) => Step::Goes(notify_token(token, why.notice(), spot, t, out)),
     }
 }
 

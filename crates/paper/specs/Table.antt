@@ -1,16 +1,14 @@
 -- Document 01, "Both edges, with P for proved": its worked lines, one table and one fact over it.
-use Rattle.std.specs.Prelude.{ℕ, Bool, true, false, cond, ◌&&◌, List, [], ◌∷◌, ◌++◌, map, Ok, Err}
+use Rattle.std.specs.Prelude.{ℕ, Bool, true, false, cond, ◌&&◌, List, [], ◌∷◌, ◌++◌, map, Option, Some, None, Ok, Err}
 use Prim.Native.String.{String}
 use Rattle.slices.specs.Ascii.{ascii}
 use Rattle.slices.specs.Split.{split}
 use Rattle.slices.specs.Compare.{same_bytes}
 use Rattle.duration.specs.Duration.{duration_of}
 use Rattle.duration.specs.declared.Value.{Value}
-use Rattle.duration.specs.declared.Value.TheVariants.{Missing, Plain, Tuplet}
-use Rattle.token.specs.Outcome.{read_token, reported, note_pitches}
+use Rattle.duration.specs.declared.Value.TheVariants.{Plain, Tuplet}
+use Rattle.token.specs.Outcome.{Outcome as Reading, notice_number, read_token, reported, note_pitches}
 use Rattle.token.specs.declared.pitches.Tone.{Tone}
-use Rattle.token.specs.declared.outcome.Outcome.{Outcome as Reading}
-use Rattle.token.specs.declared.outcome.Outcome.TheVariants.{Silent, Unread, Heard}
 use Rattle.paths.specs.declared.PathToken.{PathToken}
 use Rattle.paths.specs.Token.{path_token}
 use Rattle.paths.specs.Row.{Spine, line, branch, outside}
@@ -34,10 +32,10 @@ pub data Line : Type 0 where
   -- an interpretation: its tempo
   tempo : String → List ℕ → Line
 
-abbrev of_value : Value → List ℕ
-of_value Missing = []
-of_value (Plain v) = v ∷ 0 ∷ 0 ∷ []
-of_value (Tuplet v actual normal) = v ∷ actual ∷ normal ∷ []
+abbrev of_value : Option Value → List ℕ
+of_value None = []
+of_value (Some (Plain v)) = v ∷ 0 ∷ 0 ∷ []
+of_value (Some (Tuplet v actual normal)) = v ∷ actual ∷ normal ∷ []
 
 -- "17 signifiers", where there are any
 abbrev of_signifiers : List ℕ → List ℕ
@@ -48,9 +46,9 @@ abbrev octave_of : Tone → ℕ
 octave_of t = t.octave
 
 abbrev of_token : List ℕ → Reading → List ℕ
-of_token token Silent = []
-of_token token (Unread n) = n ∷ []
-of_token token (Heard n) = 100 ∷ map octave_of (note_pitches token)
+of_token token (Ok None) = []
+of_token token (Err why) = notice_number why ∷ []
+of_token token (Ok (Some n)) = 100 ∷ map octave_of (note_pitches token)
 
 abbrev of_spine : Spine → ℕ
 of_spine (line p v) = v

@@ -14,7 +14,7 @@ use Rattle.slices.specs.Compare.{begins_with, same_bytes}
 use Rattle.slices.proofs.CompareLaws.{same_is}
 use Rattle.duration.specs.Duration.{duration_of}
 use Rattle.duration.specs.declared.Value.{Value}
-use Rattle.duration.specs.declared.Value.TheVariants.{Missing, Plain, Tuplet}
+use Rattle.std.specs.Prelude.{Option, Some, None}
 use Rattle.notation.specs.Bytes.{contains}
 use Rattle.items.specs.Items.{is_digit}
 use Rattle.peers.specs.Peers.{leading, forbids, if_value, offer_of, Offered}
@@ -64,21 +64,20 @@ facts : (t ds : List ℕ) → ds ≡ offer_of t → (length ds ≡ 0 → ⊥) �
 unfolding offer_of
 facts t ds e some = go (forbids t) (eqb (length (leading t)) (length t)) (duration_of (leading t)) refl refl refl e
   where
-    valued : (v : Value) → duration_of (leading t) ≡ v → forbids t ≡ false → eqb (length (leading t)) (length t) ≡ false → ds ≡ leading t → ((l : List ℕ) → if_value v l ≡ l) → Facts t ds
+    valued : (v : Option Value) → duration_of (leading t) ≡ v → forbids t ≡ false → eqb (length (leading t)) (length t) ≡ false → ds ≡ leading t → ((l : List ℕ) → if_value v l ≡ l) → Facts t ds
     valued v w p q r k = record {
       free = p;
       leads = sym r;
       more = λ z. let x : eqb (length (leading t)) (length t) ≡ true = eq-eqb _ _ (ap length (sym r) ∙ z) in false≢true (sym q ∙ x);
-      valued = ap (λ (l : List ℕ). if_value (duration_of l) ds) r ∙ ap (λ (u : Value). if_value u ds) w ∙ k ds;
+      valued = ap (λ (l : List ℕ). if_value (duration_of l) ds) r ∙ ap (λ (u : Option Value). if_value u ds) w ∙ k ds;
     }
 
-    go : (a b : Bool) (v : Value) → forbids t ≡ a → eqb (length (leading t)) (length t) ≡ b → duration_of (leading t) ≡ v
+    go : (a b : Bool) (v : Option Value) → forbids t ≡ a → eqb (length (leading t)) (length t) ≡ b → duration_of (leading t) ≡ v
         → ds ≡ cond a [] (cond b [] (if_value v (leading t))) → Facts t ds
     go true b v p q w r = absurd (some (ap length r))
     go false true v p q w r = absurd (some (ap length r))
-    go false false Missing p q w r = absurd (some (ap length r))
-    go false false (Plain v) p q w r = valued (Plain v) w p q r (λ l. refl)
-    go false false (Tuplet v a n) p q w r = valued (Tuplet v a n) w p q r (λ l. refl)
+    go false false None p q w r = absurd (some (ap length r))
+    go false false (Some v) p q w r = valued (Some v) w p q r (λ l. refl)
 
 leading_twice : (t : List ℕ) → leading (leading t) ≡ leading t
 unfolding leading

@@ -15,7 +15,7 @@ use Rattle.slices.specs.Split.{piece_at}
 use Rattle.lines.specs.Lines.{piece_end}
 use Rattle.lines.specs.Tokens.{tokens_of}
 use Rattle.duration.specs.Duration.{duration_of, counts, digits}
-use Rattle.duration.specs.declared.Value.TheVariants.{Missing}
+use Rattle.std.specs.Prelude.{None}
 use Rattle.peers.specs.Peers.{offer_of, kern_cells, Tally, one, broken, begun_by, met, tally_at, settled, is_broken, Offered, Sound, Agreement, first_lacking, column_met, summed, kern_tokens, summary_of, summary_at, agreed_digits}
 use Rattle.peers.specs.declared.Found.{Found}
 use Rattle.peers.specs.declared.Found.TheVariants.{Empty, One, More, Broken}
@@ -206,6 +206,6 @@ module _ {line row : List ℕ} {from i : ℕ} {s : Summary} (inv : Passing line 
       ∙ ap (λ (a : Agreement). settled a.tally) (sym inv.same)
 
 -- no digits have no value
-pub no_value : duration_of [] ≡ Missing
+pub no_value : duration_of [] ≡ None
 unfolding duration_of same_bytes counts digits
 no_value = refl

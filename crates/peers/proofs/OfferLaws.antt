@@ -12,7 +12,7 @@ use borrow.Author.Tests.{eq-eqb, ne_eqb}
 use Rattle.slices.proofs.TestLaws.{both}
 use Rattle.duration.specs.Duration.{duration_of}
 use Rattle.duration.specs.declared.Value.{Value}
-use Rattle.duration.specs.declared.Value.TheVariants.{Missing, Plain, Tuplet}
+use Rattle.std.specs.Prelude.{Option, Some, None}
 use Rattle.notation.specs.Bytes.{contains, trim_start}
 use Rattle.items.specs.Items.{is_digit, is_letter, joins, item_of, more, first, next_item}
 use Rattle.items.proofs.NextLaws.{letter_no_digit}
@@ -80,11 +80,11 @@ leading_prefix (x ∷ xs) = go (is_digit x) (leading_prefix xs)
     go false ih = refl
 
 -- the first item of a token: its digits, or something else
-pub record Leads (t : List ℕ) (end : ℕ) (v : Value) : Type 0 where
+pub record Leads (t : List ℕ) (end : ℕ) (v : Option Value) : Type 0 where
   pub long : length (leading t) ≡ end
   pub value : duration_of (leading t) ≡ v
 
-item_by : (x : ℕ) (xs : List ℕ) (d l b : Bool) → is_digit x ≡ d → is_letter x ≡ l → eqb x 32 ≡ b → {v : Value} → item_of (x ∷ xs) ≡ Digits v → (is_digit x ≡ true) × (duration_of (x ∷ xs) ≡ v)
+item_by : (x : ℕ) (xs : List ℕ) (d l b : Bool) → is_digit x ≡ d → is_letter x ≡ l → eqb x 32 ≡ b → {v : Option Value} → item_of (x ∷ xs) ≡ Digits v → (is_digit x ≡ true) × (duration_of (x ∷ xs) ≡ v)
 unfolding item_of
 item_by x xs true l b p q s {v} e =
     let f : Digits (duration_of (x ∷ xs)) ≡ Digits v = rw p at e in
@@ -103,7 +103,7 @@ leading_long x (y ∷ ys) h = go (is_digit y) refl (leading_long y ys)
     go true e ih = rw (h, e) (ap suc (ih e))
     go false e ih = rw (h, e)
 
-pub digits_lead : (t : List ℕ) {n : Next} {v : Value} → n ≡ next_item t 0 → n.item ≡ Digits v → Leads t n.end v
+pub digits_lead : (t : List ℕ) {n : Next} {v : Option Value} → n ≡ next_item t 0 → n.item ≡ Digits v → Leads t n.end v
 unfolding next_item first leading item_of
 digits_lead [] {n} {v} e q =
     let z : Blank ≡ Digits v = sym (ap (λ (m : Next). m.item) e) ∙ q in
@@ -134,29 +134,27 @@ no_lead (x ∷ xs) {n} e q = go (is_digit x) (is_letter x) (eqb x 32) refl (sym 
     go false l b p h = refl
 
 -- ---- what a neighbour offers, by the ways out of the code
-value_long : (v : Value) (ds : List ℕ) → length (if_value v ds) ≡ if_some v (length ds)
-value_long Missing ds = refl
-value_long (Plain v) ds = refl
-value_long (Tuplet v a n) ds = refl
+value_long : (v : Option Value) (ds : List ℕ) → length (if_value v ds) ≡ if_some v (length ds)
+value_long None ds = refl
+value_long (Some v) ds = refl
 
-value_none : (v : Value) → if_value v [] ≡ []
-value_none Missing = refl
-value_none (Plain v) = refl
-value_none (Tuplet v a n) = refl
+value_none : (v : Option Value) → if_value v [] ≡ []
+value_none None = refl
+value_none (Some v) = refl
 
 pub offer_forbids : (t : List ℕ) {b : Bool} → b ≡ forbids t → b ≡ true → 0 ≡ length (offer_of t)
 unfolding offer_of
 offer_forbids t p q = rw (sym p ∙ q)
 
-pub offer_whole : (t : List ℕ) {b : Bool} {end : ℕ} {v : Value} → b ≡ forbids t → b ≡ false → Leads t end v → end ≡ length t → 0 ≡ length (offer_of t)
+pub offer_whole : (t : List ℕ) {b : Bool} {end : ℕ} {v : Option Value} → b ≡ forbids t → b ≡ false → Leads t end v → end ≡ length t → 0 ≡ length (offer_of t)
 unfolding offer_of
 offer_whole t p q d e = rw (sym p ∙ q, d.long, eq-eqb _ _ e)
 
-pub offer_value : (t : List ℕ) {b : Bool} {end r : ℕ} {v : Value} → b ≡ forbids t → b ≡ false → Leads t end v → (end ≡ length t → ⊥)
+pub offer_value : (t : List ℕ) {b : Bool} {end r : ℕ} {v : Option Value} → b ≡ forbids t → b ≡ false → Leads t end v → (end ≡ length t → ⊥)
     → r ≡ if_some v end → r ≡ length (offer_of t)
 unfolding offer_of
 offer_value t {b} {end} {r} {v} p q d e s =
-    s ∙ ap (if_some v) (sym d.long) ∙ sym (value_long v (leading t)) ∙ ap (λ (w : Value). length (if_value w (leading t))) (sym d.value)
+    s ∙ ap (if_some v) (sym d.long) ∙ sym (value_long v (leading t)) ∙ ap (λ (w : Option Value). length (if_value w (leading t))) (sym d.value)
     ∙ sym (rw (sym p ∙ q, ne_eqb (length (leading t)) (length t) (λ z. e (sym d.long ∙ z))))
 
 offer_nothing : (t : List ℕ) → leading t ≡ [] → offer_of t ≡ []
@@ -194,9 +192,8 @@ pub offer_prefix : (t : List ℕ) → take (length (offer_of t)) t ≡ offer_of 
 unfolding offer_of
 offer_prefix t = go (forbids t) (eqb (length (leading t)) (length t)) (duration_of (leading t))
   where
-    go : (a b : Bool) (v : Value) → take (length (cond a [] (cond b [] (if_value v (leading t))))) t ≡ cond a [] (cond b [] (if_value v (leading t)))
+    go : (a b : Bool) (v : Option Value) → take (length (cond a [] (cond b [] (if_value v (leading t))))) t ≡ cond a [] (cond b [] (if_value v (leading t)))
     go true b v = refl
     go false true v = refl
-    go false false Missing = refl
-    go false false (Plain v) = leading_prefix t
-    go false false (Tuplet v a n) = leading_prefix t
+    go false false None = refl
+    go false false (Some v) = leading_prefix t

@@ -1,10 +1,9 @@
 -- The length that a token without one takes from its record: "missing lengths `uniform_peer_reciprocal`".
-use Rattle.std.specs.Prelude.{◌≡◌, ℕ, suc, ◌+◌, ◌≤◌, List, [], ◌∷◌, Bool, true, false, cond, not, ◌&&◌, ◌||◌, eqb, leb, length}
+use Rattle.std.specs.Prelude.{◌≡◌, ℕ, suc, ◌+◌, ◌≤◌, List, [], ◌∷◌, Bool, true, false, cond, not, ◌&&◌, ◌||◌, eqb, leb, length, Option, Some, None}
 use Rattle.slices.specs.Compare.{same_bytes}
 use Rattle.slices.specs.Split.{piece_at}
 use Rattle.duration.specs.Duration.{duration_of}
 use Rattle.duration.specs.declared.Value.{Value}
-use Rattle.duration.specs.declared.Value.TheVariants.{Missing, Plain, Tuplet}
 use Rattle.notation.specs.Bytes.{contains, trim_start}
 use Rattle.items.specs.Items.{is_digit, is_letter}
 use Rattle.token.specs.Token.{signs}
@@ -33,10 +32,9 @@ leading (x ∷ xs) = cond (is_digit x) (x ∷ leading xs) []
 unfoldable pub forbids : List ℕ → Bool
 forbids t = contains 32 t || (contains 46 t || contains 37 t)
 
-abbrev pub if_value : Value → List ℕ → List ℕ
-if_value Missing ds = []
-if_value (Plain v) ds = ds
-if_value (Tuplet v a n) ds = ds
+abbrev pub if_value : Option Value → List ℕ → List ℕ
+if_value None ds = []
+if_value (Some v) ds = ds
 
 -- the digits that a neighbour offers: those that it begins with, if more follows and they have a value; else none
 unfoldable pub offer_of : List ℕ → List ℕ
@@ -161,7 +159,6 @@ agreed_digits ts kern = settled (summary_of ts kern).tally
 abbrev pub summary_at : List ℕ → Summary → Agreement
 summary_at line s = record { lacking = s.lacking; tally = tally_at line s.found }
 
-abbrev pub if_some : Value → ℕ → ℕ
-if_some Missing n = 0
-if_some (Plain v) n = n
-if_some (Tuplet v a b) n = n
+abbrev pub if_some : Option Value → ℕ → ℕ
+if_some None n = 0
+if_some (Some v) n = n

@@ -138,18 +138,10 @@ fn offer(token: &[u8]) -> usize
 }
 
 // A number, or 0 for a missing value.
-fn if_value(v: Value, n: usize) -> usize
+fn if_value(v: Option<Value>, n: usize) -> usize
     ensures { result ≡ if_some v n }
 {
-    match v {
-        Value::Missing => 0,
-        Value::Plain(_) => n,
-        Value::Tuplet {
-            value: _,
-            actual: _,
-            normal: _,
-        } => n,
-    }
+    if v.is_some() { n } else { 0 }
 }
 
 // Whether a neighbour offers the digits of a piece of the line, which another offers.
@@ -302,12 +294,12 @@ pub fn agreed_reciprocal(line: &[u8], row: &[u16]) -> Peer
     settle(line, found)
 }
 
-// The value of those digits, Missing where there are none.
-pub fn agreed_duration(line: &[u8], row: &[u16]) -> Value
+// The value of those digits, None where there are none.
+pub fn agreed_duration(line: &[u8], row: &[u16]) -> Option<Value>
     ensures { result ≡ duration_of (agreed_digits (tokens_of line.now) (kern_cells row.now)) }
 {
     match agreed_reciprocal(line, row) {
-        Peer::Nothing => Value::Missing,
+        Peer::Nothing => None,
         Peer::At { at, len } => {
             let digits = slices::piece(line, at, len);
             duration::kern_duration(digits)

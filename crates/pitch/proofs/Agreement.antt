@@ -8,7 +8,7 @@ use lib.Dec.{eqb, eqb→eq}
 use lib.ListN.{get_or}
 use Rattle.pitch.specs.Pitch.{within, pitch_of, altered_by, signs, twos_complement}
 use Rattle.pitch.specs.Reference.{Step, C, D, E, F, G, A, B, Case, lower, upper, letter_of, above, below, further, octave_of, Numbered, number, sharp, flat, natural, written}
-use Rattle.pitch.specs.declared.Pitch.TheVariants.{At, Outside}
+use Rattle.std.specs.Prelude.{Some, None}
 use Rattle.pitch.proofs.Letters.{seven}
 use Rattle.pitch.proofs.PitchLaws.{none_at_all, lower_in, lower_out, upper_in, upper_out, no_letter}
 use Rattle.pitch.proofs.SignLaws.{signs_append, sharps_from, flats_from}
@@ -51,7 +51,7 @@ not_none r e = omega arith
 
 -- where the octave's number is 0 to 9, the run has that octave and the letter's step
 pub inside : (case : Case) (s : Step) (r octave : ℕ) → Numbered (octave_of case r) octave → octave ≤ 9
-    → pitch_of (letter_of case s) (suc r) ≡ At (number s) octave
+    → pitch_of (letter_of case s) (suc r) ≡ Some (record { step = number s; octave = octave })
 unfolding Numbered
 inside lower s r octave at h =
     let o : octave ≡ 4 + r = rw octave_lower at at in
@@ -64,7 +64,7 @@ inside upper s r octave at h =
 
 -- where it has no number from 0 to 9, there is no pitch
 pub outside : (case : Case) (s : Step) (r : ℕ) → ((octave : ℕ) → Numbered (octave_of case r) octave → octave ≤ 9 → ⊥)
-    → pitch_of (letter_of case s) (suc r) ≡ Outside
+    → pitch_of (letter_of case s) (suc r) ≡ None
 unfolding Numbered
 outside lower s r none =
     let high : 4 + r ≤ 9 → ⊥ = none (4 + r) (rw octave_lower refl) in
@@ -73,7 +73,7 @@ outside upper s r none =
     let low : 3 - r + r ≡ 3 → ⊥ = λ e. none (3 - r) (rw octave_upper e) (omega arith) in
     upper_out (letter_of upper s) (suc r) (not_none r) (upper_letter s).0 (upper_letter s).1.0 (omega arith)
 
-pub empty_run : (letter : ℕ) → pitch_of letter 0 ≡ Outside
+pub empty_run : (letter : ℕ) → pitch_of letter 0 ≡ None
 empty_run letter = none_at_all letter 0 refl
 
 -- the steps by the alphabet
@@ -93,7 +93,7 @@ refuted true h = absurd (h refl)
 refuted false h = refl
 
 -- and no other byte is a pitch, however often it stands
-pub other : (letter n : ℕ) → ((case : Case) (s : Step) → letter ≡ letter_of case s → ⊥) → pitch_of letter n ≡ Outside
+pub other : (letter n : ℕ) → ((case : Case) (s : Step) → letter ≡ letter_of case s → ⊥) → pitch_of letter n ≡ None
 other letter zero none = empty_run letter
 other letter (suc r) none =
     no_letter letter (suc r) (not_none r)

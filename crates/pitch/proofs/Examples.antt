@@ -8,12 +8,12 @@ use Rattle.slices.specs.Split.{index_of}
 use Rattle.slices.specs.Compare.{same_bytes}
 use Rattle.pitch.specs.Pitch.{within, lower_case, upper_case, lower_pitch, upper_pitch, pitch_of, altered_by, signs, twos_complement}
 use Rattle.pitch.specs.declared.Pitch.{Pitch}
-use Rattle.pitch.specs.declared.Pitch.TheVariants.{At, Outside}
+use Rattle.std.specs.Prelude.{Option, Some, None}
 
 -- step and octave, or nothing
-abbrev pub shown : Pitch → List ℕ
-shown (At step octave) = step ∷ octave ∷ []
-shown Outside = []
+abbrev pub shown : Option Pitch → List ℕ
+shown (Some p) = p.step ∷ p.octave ∷ []
+shown None = []
 
 pub data Line : Type 0 where
   run : ℕ → ℕ → List ℕ → Line

@@ -1,9 +1,8 @@
 -- The pitch of a run of one letter, and the accidentals behind it, by document 01.
-use Rattle.std.specs.Prelude.{ℕ, ◌+◌, ◌-◌, ◌%◌, min, List, [], ◌∷◌, Bool, cond, ◌&&◌, eqb, leb}
+use Rattle.std.specs.Prelude.{ℕ, ◌+◌, ◌-◌, ◌%◌, min, List, [], ◌∷◌, Bool, cond, ◌&&◌, eqb, leb, Option, Some, None}
 use Rattle.slices.specs.Ascii.{ascii}
 use Rattle.slices.specs.Split.{index_of}
 use Rattle.pitch.specs.declared.Pitch.{Pitch}
-use Rattle.pitch.specs.declared.Pitch.TheVariants.{At, Outside}
 
 -- a byte from `low` to `high`
 unfoldable pub within : ℕ → ℕ → ℕ → Bool
@@ -17,19 +16,19 @@ unfoldable pub upper_case : List ℕ
 upper_case = ascii "CDEFGAB"
 
 -- "six `c` octave 9, seven notices 17 and 18": lower case has the octave 3 + n, which ends at 9
-unfoldable pub lower_pitch : ℕ → ℕ → Pitch
-lower_pitch step n = cond (leb (3 + n) 9) (At step (3 + n)) Outside
+unfoldable pub lower_pitch : ℕ → ℕ → Option Pitch
+lower_pitch step n = cond (leb (3 + n) 9) (Some (record { step = step; octave = 3 + n })) None
 
 -- "four `C` octave 0, five 17 and 18": upper case has the octave 4 - n, which ends at 0
-unfoldable pub upper_pitch : ℕ → ℕ → Pitch
-upper_pitch step n = cond (leb n 4) (At step (4 - n)) Outside
+unfoldable pub upper_pitch : ℕ → ℕ → Option Pitch
+upper_pitch step n = cond (leb n 4) (Some (record { step = step; octave = 4 - n })) None
 
 -- the pitch of a letter, a to g or A to G, that stands n times in a row
-unfoldable pub pitch_of : ℕ → ℕ → Pitch
+unfoldable pub pitch_of : ℕ → ℕ → Option Pitch
 pitch_of letter n =
-    cond (eqb n 0) Outside
+    cond (eqb n 0) None
     (cond (within 97 103 letter) (lower_pitch (index_of letter lower_case) n)
-    (cond (within 65 71 letter) (upper_pitch (index_of letter upper_case) n) Outside))
+    (cond (within 65 71 letter) (upper_pitch (index_of letter upper_case) n) None))
 
 -- "Accidentals stop at the ends of their range: 127 sharps are the most and 128 flats; `n` sets 0."
 -- The signs are # 35, - 45, n 110; the alteration is held with 128 added, so that 0 is 128 flats and 255 is 127 sharps.

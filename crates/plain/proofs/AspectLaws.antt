@@ -14,10 +14,9 @@ use Rattle.pitch.specs.Pitch.{altered_by}
 use Rattle.duration.specs.declared.Value.{Value}
 use Rattle.items.specs.declared.Item.{Item}
 use Rattle.items.specs.declared.Item.TheVariants.{Digits, Letters, Mark}
-use Rattle.token.specs.Token.{bad_length, up_to_blank, first_sub, is_silent, given_in, marks, count_of, any_of, grace_by, grace_from, articulation, articulations_in, heard, passes, signifiers}
+use Rattle.token.specs.Token.{bad_length, given_by, up_to_blank, first_sub, is_silent, given_in, marks, count_of, any_of, grace_by, grace_from, articulation, articulations_in, heard, passes, signifiers}
 use Rattle.token.specs.declared.pitches.Tone.{Tone}
-use Rattle.token.specs.declared.pitches.Sound.TheVariants.{Silence, Of}
-use Rattle.token.specs.declared.scan.Given.TheVariants.{Length}
+use Rattle.std.specs.Prelude.{Option, Some, None}
 use Rattle.plain.specs.Usual.{unknown_bytes, mark_bytes, all_in, carried, Said, said_by}
 use Rattle.plain.proofs.ByteLaws.{each, among, or_left, or_right, or_only, said_still}
 use Rattle.plain.proofs.ItemLaws.{marked}
@@ -42,7 +41,7 @@ bad_marks had [] is e h b = h b
 bad_marks had (x ∷ xs) is e h b =
     rw (not-true (eqb x 37) (each_head (differs 37) x xs e)) (bad_marks had xs is (each_tail (differs 37) x xs e) h false)
 
-pub bad_digits : (v : Value) (is : List Item) → bad_length true true is ≡ false → (b : Bool) → bad_length false b (Digits v ∷ is) ≡ false
+pub bad_digits : (v : Option Value) (is : List Item) → bad_length true true is ≡ false → (b : Bool) → bad_length false b (Digits v ∷ is) ≡ false
 unfolding bad_length
 bad_digits v is h b = h
 
@@ -68,19 +67,19 @@ pub up_letters : (c n : ℕ) (is : List Item) → up_to_blank (Letters c n ∷ i
 unfolding up_to_blank
 up_letters c n is = refl
 
-pub first_marks : (xs : List ℕ) (v : Value) (is : List Item) → up_to_blank is ≡ is
+pub first_marks : (xs : List ℕ) (v : Option Value) (is : List Item) → up_to_blank is ≡ is
     → first_sub (marked xs (Digits v ∷ is)) ≡ marked xs (Digits v ∷ is)
 unfolding first_sub up_to_blank
 first_marks [] v is e = ap (λ (r : List Item). Digits v ∷ r) e
 first_marks (x ∷ xs) v is e =
     ap (λ (r : List Item). Mark x ∷ r) (up_marks xs (Digits v ∷ is) ∙ ap (λ (r : List Item). marked xs (Digits v ∷ r)) e)
 
-pub silent_marks : (xs : List ℕ) (v : Value) (is : List Item) → is_silent (marked xs (Digits v ∷ is)) ≡ false
+pub silent_marks : (xs : List ℕ) (v : Option Value) (is : List Item) → is_silent (marked xs (Digits v ∷ is)) ≡ false
 unfolding is_silent
 silent_marks [] v is = refl
 silent_marks (x ∷ xs) v is = refl
 
-pub given_marks : (xs : List ℕ) (v : Value) (is : List Item) → given_in (marked xs (Digits v ∷ is)) ≡ Length v
+pub given_marks : (xs : List ℕ) (v : Option Value) (is : List Item) → given_in (marked xs (Digits v ∷ is)) ≡ given_by v
 unfolding given_in
 given_marks [] v is = refl
 given_marks (x ∷ xs) v is = given_marks xs v is
@@ -96,7 +95,7 @@ unfolding marks
 marks_only [] = refl
 marks_only (x ∷ xs) = ap (λ (r : List ℕ). x ∷ r) (marks_only xs)
 
-pub marks_digits : (v : Value) (is : List Item) → marks (Digits v ∷ is) ≡ marks is
+pub marks_digits : (v : Option Value) (is : List Item) → marks (Digits v ∷ is) ≡ marks is
 unfolding marks
 marks_digits v is = refl
 
@@ -181,17 +180,17 @@ says s (b ∷ bs) =
     }
 
 -- ---- pitches
-pub heard_before : (xs : List ℕ) (is : List Item) → heard Silence (marked xs is) ≡ heard Silence is
+pub heard_before : (xs : List ℕ) (is : List Item) → heard None (marked xs is) ≡ heard None is
 unfolding heard
 heard_before [] is = refl
 heard_before (x ∷ xs) is = heard_before xs is
 
-pub heard_digits : (v : Value) (is : List Item) → heard Silence (Digits v ∷ is) ≡ heard Silence is
+pub heard_digits : (v : Option Value) (is : List Item) → heard None (Digits v ∷ is) ≡ heard None is
 unfolding heard
 heard_digits v is = refl
 
 pub heard_behind : (t : Tone) (xs : List ℕ)
-    → heard (Of t) (marked xs []) ≡ record { step = t.step; octave = t.octave; alter = carried altered_by t.alter xs } ∷ []
+    → heard (Some t) (marked xs []) ≡ record { step = t.step; octave = t.octave; alter = carried altered_by t.alter xs } ∷ []
 unfolding heard carried
 heard_behind t [] = refl
 heard_behind t (x ∷ xs) = heard_behind (record { step = t.step; octave = t.octave; alter = altered_by t.alter x }) xs

@@ -11,13 +11,12 @@ use Rattle.token.proofs.SignifierLaws.{no_signifiers}
 use Rattle.notation.specs.Bytes.{contains}
 use Rattle.pitch.specs.Pitch.{within, pitch_of, altered_by}
 use Rattle.pitch.specs.declared.Pitch.{Pitch}
-use Rattle.pitch.specs.declared.Pitch.TheVariants.{At}
 use Rattle.items.specs.Items.{is_digit, is_letter, runs, items_of, items}
 use Rattle.items.specs.declared.Item.{Item}
 use Rattle.items.specs.declared.Item.TheVariants.{Letters}
 use Rattle.token.specs.Token.{bad_length, up_to_blank, marks, count_of, grace_from, begun, heard, any_of, passes, signifiers}
 use Rattle.token.specs.declared.pitches.Tone.{Tone}
-use Rattle.token.specs.declared.pitches.Sound.TheVariants.{Silence}
+use Rattle.std.specs.Prelude.{Option, Some, None}
 use Rattle.items.proofs.NextLaws.{letter_no_digit}
 use Rattle.plain.specs.Usual.{unknown_bytes, mark_bytes, sign_bytes, all_in, carried, Said, said_by, PitchOf, SoundOf, rests, sings}
 use Rattle.plain.proofs.PieceLaws.{carried_append}
@@ -34,7 +33,7 @@ pub record Body (bytes : List ℕ) (rest : Bool) (t : Tone) (post : List ℕ) : 
   pub whole : up_to_blank body ≡ body
   pub written : marks body ≡ bs
   pub good : (b : Bool) → bad_length true b body ≡ false
-  pub tones : heard Silence body ≡ cond rest [] (t ∷ [])
+  pub tones : heard None body ≡ cond rest [] (t ∷ [])
   pub unknown : any_of unknown_bytes post ≡ false → signifiers false body ≡ []
   pub undotted : count_of 46 bs ≡ 0
   pub rests : contains 114 bs ≡ rest
@@ -117,7 +116,7 @@ no_tab : (c : ℕ) → is_letter c ≡ true → differs 9 c ≡ true
 unfolding is_letter within
 no_tab c l = rw (ne_eqb c 9 (λ e. not_both (sym (ap is_letter e) ∙ l) refl))
 
-module _ (c : ℕ) (cs signs post : List ℕ) (t : Tone) (same : each (λ x. eqb x c) cs ≡ true) (place : pitch_of c (suc (length cs)) ≡ At t.step t.octave) (signed : all_in sign_bytes signs ≡ true) (alter : carried altered_by 128 signs ≡ t.alter) (m : all_in mark_bytes post ≡ true) where
+module _ (c : ℕ) (cs signs post : List ℕ) (t : Tone) (same : each (λ x. eqb x c) cs ≡ true) (place : pitch_of c (suc (length cs)) ≡ Some (record { step = t.step; octave = t.octave })) (signed : all_in sign_bytes signs ≡ true) (alter : carried altered_by 128 signs ≡ t.alter) (m : all_in mark_bytes post ≡ true) where
   both : (test : ℕ → Bool) → each test sign_bytes ≡ true → each test mark_bytes ≡ true → each test (signs ++ post) ≡ true
   both test p q = each_join test signs post (each_in test sign_bytes signs p signed) (each_in test mark_bytes post q m)
 
@@ -157,7 +156,7 @@ module _ (c : ℕ) (cs signs post : List ℕ) (t : Tone) (same : each (λ x. eqb
         written = marks_letters c n (marked tail []) ∙ marks_only tail;
         good = bad_letters c n (marked tail []) (bad_marks true tail [] (both (differs 37) refl refl) (bad_none true));
         tones =
-            ap (λ (p : Pitch). heard (begun Silence p) (marked tail [])) place
+            ap (λ (p : Option Pitch). heard (begun None p) (marked tail [])) place
             ∙ heard_behind (record { step = t.step; octave = t.octave; alter = 128 }) tail
             ∙ ap (λ (a : ℕ). record { step = t.step; octave = t.octave; alter = a } ∷ []) altered;
         unknown = λ o. rw place (signifiers_marks true tail [] (each_join (passes true) signs post (each_in (passes true) sign_bytes signs refl signed) (not_unknown true refl post m o)) ∙ no_signifiers true);
@@ -169,7 +168,7 @@ module _ (c : ℕ) (cs signs post : List ℕ) (t : Tone) (same : each (λ x. eqb
         tabless = each_join (differs 9) ((c ∷ cs) ++ signs) post (kept (differs 9) (no_tab c letter) refl) (each_in (differs 9) mark_bytes post refl m);
       }
 
-body_run : (c : ℕ) (run signs post : List ℕ) (t : Tone) → each (λ x. eqb x c) run ≡ true → pitch_of c (length run) ≡ At t.step t.octave
+body_run : (c : ℕ) (run signs post : List ℕ) (t : Tone) → each (λ x. eqb x c) run ≡ true → pitch_of c (length run) ≡ Some (record { step = t.step; octave = t.octave })
     → all_in sign_bytes signs ≡ true → carried altered_by 128 signs ≡ t.alter → all_in mark_bytes post ≡ true → Body (run ++ signs) false t post
 unfolding pitch_of
 body_run c [] signs post t e p s a m = clash cc

@@ -9,7 +9,7 @@ use borrow.Author.Tests.{eq-eqb, eqb-true, not-true}
 use Rattle.notation.specs.Bytes.{contains}
 use Rattle.pitch.specs.Pitch.{within, pitch_of}
 use Rattle.pitch.specs.declared.Pitch.{Pitch}
-use Rattle.pitch.specs.declared.Pitch.TheVariants.{At, Outside}
+use Rattle.std.specs.Prelude.{Option, Some, None}
 use Rattle.duration.specs.Duration.{duration_of}
 use Rattle.items.specs.Items.{is_digit, is_letter, joins, into, runs, item_of, items_of, items}
 use Rattle.items.specs.declared.Item.{Item}
@@ -114,13 +114,13 @@ items_marks (x ∷ xs) rest e =
     ∙ ap (λ (is : List Item). Mark x ∷ is) (items_marks xs rest (and_right (single x) (each single xs) e))
 
 -- ---- a pitch is written by a letter
-letter_by : (t u v : Bool) (l h : Pitch) {step octave : ℕ} → cond t Outside (cond u l (cond v h Outside)) ≡ At step octave → (u || v) ≡ true
+letter_by : (t u v : Bool) (l h : Option Pitch) {p : Pitch} → cond t None (cond u l (cond v h None)) ≡ Some p → (u || v) ≡ true
 letter_by true u v l h e = clash cc
 letter_by false true v l h e = refl
 letter_by false false true l h e = refl
 letter_by false false false l h e = clash cc
 
-pub letter_of : (c n : ℕ) {step octave : ℕ} → pitch_of c n ≡ At step octave → is_letter c ≡ true
+pub letter_of : (c n : ℕ) {p : Pitch} → pitch_of c n ≡ Some p → is_letter c ≡ true
 unfolding pitch_of is_letter
 letter_of c n e = letter_by (eqb n 0) (within 97 103 c) (within 65 71 c) _ _ e
 

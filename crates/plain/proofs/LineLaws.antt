@@ -5,12 +5,12 @@ use native.Mathlib.Omega.{arith}
 use mathlib.Core.List.{List, [], ◌∷◌, ◌++◌}
 use mathlib.Core.Bool.{Bool, true, false, ◌&&◌}
 use lib.Dec.{eqb, ltb}
-use lib.ListN.{length, drop, get_or, take-append-drop}
+use lib.ListN.{length, drop, get_or, take-append-drop, drop_of_length-le}
 use lib.Seq.{drop-drop}
-use borrow.Author.Tests.{ltb-true, ltb-false, not-true}
+use borrow.Author.Tests.{eq-eqb, ltb-true, ltb-false, not-true}
 use Rattle.slices.specs.Split.{index_of, piece_at}
 use Rattle.slices.specs.Compare.{same_bytes}
-use Rattle.slices.proofs.SplitLaws.{find_here, find_end}
+use Rattle.slices.proofs.SplitLaws.{at_index, index_more, index_none}
 use Rattle.lines.specs.Lines.{piece_end}
 use Rattle.lines.specs.Tokens.{is_null}
 use Rattle.duration.specs.Duration.{digit, digits, number, number_from, duration_of}
@@ -18,7 +18,7 @@ use Rattle.duration.specs.declared.Value.{Value}
 use Rattle.notation.specs.Bytes.{contains}
 use Rattle.pitch.specs.Pitch.{pitch_of}
 use Rattle.pitch.specs.declared.Pitch.{Pitch}
-use Rattle.pitch.specs.declared.Pitch.TheVariants.{At}
+use Rattle.std.specs.Prelude.{Option, Some}
 use Rattle.plain.specs.Plain.{ShapeAt}
 use Rattle.plain.specs.Usual.{digit_bytes, digit_by, all_in, Run, opened, Said, said_by, carried, Marking, Numbering, Signing, rests, sings, SungAt, Parts, Closed, Tail, TailAt}
 use Rattle.plain.specs.declared.Opening.{Opening}
@@ -44,8 +44,10 @@ index_closed : (line : List ℕ) (end : ℕ) → Closed line end → index_of 9 
 index_closed line end h = go (ltb end (length line)) refl
   where
     go : (t : Bool) → ltb end (length line) ≡ t → index_of 9 (drop end line) ≡ 0
-    go true e = find_here 9 end line (ltb-true end (length line) e) (h (ltb-true end (length line) e))
-    go false e = find_end 9 end line (ltb-false end (length line) e)
+    go true e =
+        let l : end < length line = ltb-true end (length line) e in
+        ap (index_of 9) (at_index line end l) ∙ rw (index_more, eq-eqb _ _ (h l))
+    go false e = ap (index_of 9) (drop_of_length-le line (ltb-false end (length line) e)) ∙ index_none 9
 
 pub end_is : (line : List ℕ) (from end : ℕ) → from ≤ end → end ≤ length line → each (differs 9) (piece_at line from (end - from)) ≡ true
     → Closed line end → end ≡ piece_end 9 line from
@@ -79,8 +81,8 @@ sung_rest line from s h e r q =
       sound = rests (ap (λ (m : ℕ). piece_at line from (m - from)) q ∙ piece_one line from h ∙ ap (λ (x : ℕ). x ∷ []) e) r;
     }
 
-pub sung_pitch : {line : List ℕ} {from to c step octave alter end : ℕ} {p : Pitch} → Run (c ∷ []) line from to → Signing line to alter end
-    → p ≡ pitch_of c (to - from) → p ≡ At step octave
+pub sung_pitch : {line : List ℕ} {from to c step octave alter end : ℕ} {p : Option Pitch} → Run (c ∷ []) line from to → Signing line to alter end
+    → p ≡ pitch_of c (to - from) → p ≡ Some (record { step = step; octave = octave })
     → SungAt line from (record { no = false; rest = false; tone = record { step = step; octave = octave; alter = alter }; end = end })
 sung_pitch {line} {from} {to} {c} {step} {octave} {alter} {end} {p} r s e q =
     record {
@@ -113,7 +115,7 @@ unfolding carried number_from
 number_by n [] = refl
 number_by n (x ∷ xs) = number_by (digit_by n x) xs
 
-pub reciprocal_value : {line : List ℕ} {from n end : ℕ} {v : Value} → Numbering line from n end
+pub reciprocal_value : {line : List ℕ} {from n end : ℕ} {v : Option Value} → Numbering line from n end
     → ((s : List ℕ) → digits s ≡ true → number s ≡ n → length s ≡ end - from → v ≡ duration_of s) → v ≡ duration_of (piece_at line from (end - from))
 reciprocal_value {line} {from} {n} {end} r h =
     let ds : List ℕ = piece_at line from (end - from) in

@@ -20,14 +20,14 @@ use Rattle.duration.specs.declared.Value.{Value}
 use Rattle.items.specs.Items.{is_digit, is_letter, items}
 use Rattle.items.specs.declared.Item.{Item}
 use Rattle.items.specs.declared.Item.TheVariants.{Digits}
-use Rattle.token.specs.Token.{bad_length, first_sub, given_in, marks, count_of, dots_of, rest_of, any_of, grace_from, articulations_in, heard, passes, signifiers}
+use Rattle.token.specs.Token.{bad_length, given_by, first_sub, given_in, marks, count_of, dots_of, rest_of, any_of, grace_from, articulations_in, heard, passes, signifiers}
 use Rattle.token.specs.Scan.{scan_items, scan_of}
 use Rattle.token.specs.Outcome.{outcome_of, noted, note_of}
 use Rattle.token.specs.declared.scan.Scan.{Scan}
-use Rattle.token.specs.declared.scan.Given.TheVariants.{Length}
-use Rattle.token.specs.declared.outcome.Outcome.TheVariants.{Heard}
+use Rattle.token.specs.declared.outcome.Note.{Note}
 use Rattle.token.specs.declared.pitches.Tone.{Tone}
-use Rattle.token.specs.declared.pitches.Sound.TheVariants.{Silence}
+use Rattle.std.specs.Prelude.{Option, Some, None, Ok}
+use Rattle.token.proofs.AccountLaws.{given_noted}
 use Rattle.plain.specs.Plain.{PlainToken}
 use Rattle.plain.specs.Usual.{digit_bytes, unknown_bytes, mark_bytes, all_in, carried, Said, said_by, opened, note_from}
 use Rattle.plain.specs.declared.Plain.{Plain}
@@ -39,12 +39,12 @@ use Rattle.plain.proofs.AspectLaws.{each_head, differs, graceless, bad_marks, ba
 use Rattle.plain.proofs.BodyLaws.{Body, each_join}
 
 -- the scan of such a token, with so many signifiers
-abbrev usual : Value → ℕ → Bool → Said → ℕ → Scan
+abbrev usual : Option Value → ℕ → Bool → Said → ℕ → Scan
 usual v dots rest s unknowns =
     record {
       bad = false;
       silent = false;
-      given = Length v;
+      given = given_by v;
       dots = dots;
       rest = rest;
       pitches = cond rest 0 1;
@@ -148,7 +148,7 @@ module _ (pre ds dots bytes post : List ℕ) (rest : Bool) (t : Tone) (p : all_i
       ∙ grace_none dots b.bs (each_in graceless (46 ∷ []) dots refl o)
       ∙ b.graces
 
-  tones : heard Silence is ≡ cond rest [] (t ∷ [])
+  tones : heard None is ≡ cond rest [] (t ∷ [])
   tones =
       heard_before pre (Digits (duration_of ds) ∷ marked dots b.body)
       ∙ heard_digits (duration_of ds) (marked dots b.body)
@@ -212,8 +212,8 @@ module _ (pre ds dots bytes post : List ℕ) (rest : Bool) (t : Tone) (p : all_i
         let slurs : any_of (ascii "(") (marks is) ≡ s.slurs = ap (any_of (ascii "(")) m ∙ sym (g.slurs ∙ or-false _) ∙ ap (λ (u : Said). u.slurs) marks_say_lem in
         let slurred : any_of (ascii ")") (marks is) ≡ s.slurred = ap (any_of (ascii ")")) m ∙ sym (g.slurred ∙ or-false _) ∙ ap (λ (u : Said). u.slurred) marks_say_lem in
         let arts : length (articulations_in (marks is)) ≡ s.articulations = ap (λ (l : List ℕ). length (articulations_in l)) m ∙ omega (arith, g.articulations, ap (λ (u : Said). u.articulations) marks_say_lem) in
-        let given : given_in (first_sub is) ≡ Length (duration_of ds) = ap given_in first_is ∙ given_marks pre (duration_of ds) (marked dots b.body) in
-        let pitches : length (heard Silence is) ≡ cond rest 0 1 = ap length tones ∙ one_or_none rest t in
+        let given : given_in (first_sub is) ≡ given_by (duration_of ds) = ap given_in first_is ∙ given_marks pre (duration_of ds) (marked dots b.body) in
+        let pitches : length (heard None is) ≡ cond rest 0 1 = ap length tones ∙ one_or_none rest t in
         rw (good, silent_marks pre (duration_of ds) (marked dots b.body), given, dotted, rested, pitches, ties, tied, slurs, slurred, graces, arts)
 
     letters_are : letters_of token ≡ record { starts = s.starts; ends = s.ends }
@@ -232,8 +232,8 @@ module _ (pre ds dots bytes post : List ℕ) (rest : Bool) (t : Tone) (p : all_i
         none_unknown (sym first ∙ or_right (any_of unknown_bytes post) u.unknown then) (or_left (any_of unknown_bytes post) u.unknown then)
 
     -- a token of this shape is a note, whatever its peers give
-    module _ (v : Valued) (parts : (w : Scan) → noted (duration_of ds) w ≡ Heard (note_of false v.value v.actual v.normal w)) where
-      outcome_is : (inferred : Value) → outcome_of (scan_of token) inferred ≡ Heard (note_from v (length dots) rest s)
+    module _ (v : Valued) (parts : (w : Scan) → noted (duration_of ds) w ≡ Ok (Some (note_of false v.value v.actual v.normal w))) where
+      outcome_is : (inferred : Option Value) → outcome_of (scan_of token) inferred ≡ Ok (Some (note_from v (length dots) rest s))
       unfolding outcome_of note_of
       outcome_is inferred =
           ap (λ (l : List Item). outcome_of (scan_items l) inferred) items_are
@@ -243,14 +243,14 @@ module _ (pre ds dots bytes post : List ℕ) (rest : Bool) (t : Tone) (p : all_i
           unknowns : ℕ
           unknowns = length (signifiers false is)
 
-          go : (r : Bool) → outcome_of (usual (duration_of ds) (length dots) r s unknowns) inferred ≡ Heard (note_from v (length dots) r s)
-          go true = parts (usual (duration_of ds) (length dots) true s unknowns)
-          go false = parts (usual (duration_of ds) (length dots) false s unknowns)
+          go : (r : Bool) → outcome_of (usual (duration_of ds) (length dots) r s unknowns) inferred ≡ Ok (Some (note_from v (length dots) r s))
+          go true = given_noted (duration_of ds) inferred (usual (duration_of ds) (length dots) true s unknowns) ∙ parts (usual (duration_of ds) (length dots) true s unknowns)
+          go false = given_noted (duration_of ds) inferred (usual (duration_of ds) (length dots) false s unknowns) ∙ parts (usual (duration_of ds) (length dots) false s unknowns)
 
       pub plain_token : (x : Plain) → x.note ≡ note_from v (length dots) rest s → x.tone ≡ t → x.starts ≡ s.starts → x.ends ≡ s.ends → x.unknown ≡ s.unknown → PlainToken token x
       plain_token x n tone starts ends unknown =
           record {
-            outcome = λ i. outcome_is i ∙ ap Heard (sym n);
+            outcome = λ i. outcome_is i ∙ ap (λ (m : Note). Ok (Some m)) (sym n);
             reports = λ q. rw (items_are, good) (quiet_token (sym unknown ∙ q));
             sure = rw n;
             letters = letters_are ∙ rw (starts, ends);

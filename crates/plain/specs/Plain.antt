@@ -1,5 +1,5 @@
 -- Tokens of the usual shape, and what is known of one.
-use Rattle.std.specs.Prelude.{◌≡◌, ℕ, ◌-◌, true, false, cond, List, [], ◌∷◌}
+use Rattle.std.specs.Prelude.{◌≡◌, ℕ, ◌-◌, true, false, cond, List, [], ◌∷◌, Option, Some, Ok}
 use Rattle.slices.specs.Split.{piece_at}
 use Rattle.lines.specs.Lines.{piece_end}
 use Rattle.lines.specs.Tokens.{is_null}
@@ -7,14 +7,13 @@ use Rattle.duration.specs.declared.Value.{Value}
 use Rattle.notation.specs.Beam.{letters_of}
 use Rattle.token.specs.Scan.{scan_of}
 use Rattle.token.specs.Outcome.{outcome_of, reported, note_pitches}
-use Rattle.token.specs.declared.outcome.Outcome.TheVariants.{Heard}
 use Rattle.plain.specs.declared.Plain.{Plain}
 use Rattle.plain.specs.declared.Shape.{Shape}
 use Rattle.plain.specs.declared.Shape.TheVariants.{Other, Null, Note}
 
 -- a token that gives a note, whatever its peers give; a rest has no pitch, any other note one; only an unknown one has signifiers to report
 pub record PlainToken (token : List ℕ) (p : Plain) : Type 0 where
-  pub outcome : (inferred : Value) → outcome_of (scan_of token) inferred ≡ Heard p.note
+  pub outcome : (inferred : Option Value) → outcome_of (scan_of token) inferred ≡ Ok (Some p.note)
   pub reports : p.unknown ≡ false → reported token ≡ []
   pub sure : p.note.inferred ≡ false
   pub letters : letters_of token ≡ record { starts = p.starts; ends = p.ends }

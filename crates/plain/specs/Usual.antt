@@ -1,17 +1,15 @@
 -- The parts of a token of the usual shape: runs of bytes out of a word, and what they say.
-use Rattle.std.specs.Prelude.{◌≡◌, ℕ, ◌+◌, ◌-◌, ◌*◌, ◌≤◌, ◌<◌, List, [], ◌∷◌, ◌++◌, Bool, true, false, cond, ◌&&◌, ◌||◌, eqb, ltb, length, get_or}
+use Rattle.std.specs.Prelude.{◌≡◌, ℕ, ◌+◌, ◌-◌, ◌*◌, ◌≤◌, ◌<◌, List, [], ◌∷◌, ◌++◌, Bool, true, false, cond, ◌&&◌, ◌||◌, eqb, ltb, length, get_or, Option, Some, Ok}
 use Rattle.slices.specs.Ascii.{ascii}
 use Rattle.slices.specs.Split.{piece_at}
 use Rattle.notation.specs.Bytes.{contains}
 use Rattle.duration.specs.declared.Value.{Value}
 use Rattle.pitch.specs.Pitch.{pitch_of, altered_by}
-use Rattle.pitch.specs.declared.Pitch.TheVariants.{At}
 use Rattle.token.specs.Token.{articulation}
 use Rattle.token.specs.Outcome.{noted, note_of}
 use Rattle.token.specs.declared.scan.Scan.{Scan}
 use Rattle.token.specs.declared.pitches.Tone.{Tone}
 use Rattle.token.specs.declared.outcome.Note.{Note}
-use Rattle.token.specs.declared.outcome.Outcome.TheVariants.{Heard}
 use Rattle.plain.specs.declared.Opening.{Opening}
 use Rattle.plain.specs.declared.Marked.{Marked}
 use Rattle.plain.specs.declared.Valued.{Valued}
@@ -117,7 +115,7 @@ pub record PitchOf (bytes : List ℕ) (t : Tone) : Type 0 where
   pub signs : List ℕ
   pub parts : bytes ≡ run ++ signs
   pub letters : all_in (letter ∷ []) run ≡ true
-  pub place : pitch_of letter (length run) ≡ At t.step t.octave
+  pub place : pitch_of letter (length run) ≡ Some (record { step = t.step; octave = t.octave })
   pub signed : all_in sign_bytes signs ≡ true
   pub alter : carried altered_by 128 signs ≡ t.alter
 
@@ -131,8 +129,8 @@ pub record SungAt (line : List ℕ) (from : ℕ) (s : Sung) : Type 0 where
   pub sound : SoundOf (piece_at line from (s.end - from)) s.rest s.tone
 
 -- ---- the length
-abbrev pub Parts : Value → Valued → Type 0
-Parts v r = r.missing ≡ false → (s : Scan) → noted v s ≡ Heard (note_of false r.value r.actual r.normal s)
+abbrev pub Parts : Option Value → Valued → Type 0
+Parts v r = r.missing ≡ false → (s : Scan) → noted v s ≡ Ok (Some (note_of false r.value r.actual r.normal s))
 
 -- ---- the note of a rest or of one pitch: a rest has no ties and no pitches
 abbrev pub note_from : Valued → ℕ → Bool → Said → Note

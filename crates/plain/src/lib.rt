@@ -302,8 +302,8 @@ fn pitch_at(line: &[u8], from: usize, c: u8) -> Sung
 {
     let to = run_end(line, from, c);
     match pitch::pitch_of(c, to - from) {
-        Pitch::Outside => silence(true, from),
-        Pitch::At { step, octave } => {
+        None => silence(true, from),
+        Some(Pitch { step, octave }) => {
             let s = signs(line, to);
             Sung {
                 no: false,
@@ -334,27 +334,29 @@ fn sung_at(line: &[u8], from: usize) -> Sung
 }
 
 // A length in parts.
-fn parts_of(v: Value) -> Valued
+fn parts_of(v: Option<Value>) -> Valued
     ensures { Parts v result }
 {
     match v {
-        Value::Missing => Valued {
+        None => Valued {
             missing: true,
             value: 0,
             actual: 0,
             normal: 0,
         },
-        Value::Plain(value) => Valued {
+        Some(Value::Plain(value)) => Valued {
             missing: false,
             value,
             actual: 0,
             normal: 0,
         },
-        Value::Tuplet {
-            value,
-            actual,
-            normal,
-        } => Valued {
+        Some(
+            Value::Tuplet {
+                value,
+                actual,
+                normal,
+            },
+        ) => Valued {
             missing: false,
             value,
             actual,

@@ -10,11 +10,12 @@ use Rattle.notation.specs.Bytes.{contains}
 use Rattle.items.specs.declared.Item.{Item}
 use Rattle.items.specs.declared.Item.TheVariants.{Digits, Letters, Blank, Mark}
 use Rattle.duration.specs.declared.Value.{Value}
-use Rattle.token.specs.Token.{up_to_blank, first_sub, is_silent, given_in, marks, count_of, dots_of, rest_of}
+use Rattle.token.specs.Token.{given_by, up_to_blank, first_sub, is_silent, given_in, marks, count_of, dots_of, rest_of}
 use Rattle.scan.specs.Steps.{or_given, dots_by, step_first}
 use Rattle.scan.specs.declared.First.{First}
 use Rattle.token.specs.declared.scan.Given.{Given}
-use Rattle.token.specs.declared.scan.Given.TheVariants.{Nothing, Length}
+use Rattle.token.specs.declared.scan.Given.TheVariants.{Nothing, NoValue, Length}
+use Rattle.std.specs.Prelude.{Option, Some, None}
 use Rattle.scan.proofs.FoldLaws.{fold}
 
 abbrev pub state : Bool → Bool → Given → ℕ → Bool → First
@@ -22,14 +23,18 @@ state begun over given dots rest = record { begun = begun; over = over; given = 
 
 abbrev or_else : Given → Given → Given
 or_else Nothing g = g
+or_else NoValue g = NoValue
 or_else (Length v) g = Length v
 
 or_nothing : (g : Given) → g ≡ or_else g Nothing
 or_nothing Nothing = refl
+or_nothing NoValue = refl
 or_nothing (Length v) = refl
 
-or_digits : (g h : Given) (v : Value) → or_else (or_given g v) h ≡ or_else g (Length v)
-or_digits Nothing h v = refl
+or_digits : (g h : Given) (v : Option Value) → or_else (or_given g v) h ≡ or_else g (given_by v)
+or_digits Nothing h None = refl
+or_digits Nothing h (Some v) = refl
+or_digits NoValue h v = refl
 or_digits (Length w) h v = refl
 
 dots_from : ℕ → List ℕ → ℕ

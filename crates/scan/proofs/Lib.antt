@@ -7,4 +7,3 @@ pub mod MarkLaws
 pub mod PassLaws
 pub mod ScanLaws
 pub mod UnknownLaws
-pub mod OutcomeLaws

@@ -17,7 +17,7 @@ use Rattle.scan.specs.declared.Lengths.{Lengths}
 use Rattle.scan.specs.declared.First.{First}
 use Rattle.scan.specs.declared.Sounds.{Sounds}
 use Rattle.scan.specs.declared.Marks.{Marks}
-use Rattle.token.specs.declared.pitches.Sound.TheVariants.{Silence}
+use Rattle.std.specs.Prelude.{None}
 use Rattle.scan.proofs.FoldLaws.{fold, Folding, fold_turn, fold_past}
 use Rattle.scan.proofs.LengthLaws.{bad_fold}
 use Rattle.scan.proofs.FirstLaws.{before}
@@ -81,7 +81,7 @@ unfolding scan_items
 together is =
     let b = bad_fold lengths₀ is in
     let f = before is in
-    let p : (fold step_sounds sounds₀ is).pitches ≡ length (pitches_of is) = omega (arith, pitches_fold Silence 0 0 is) in
+    let p : (fold step_sounds sounds₀ is).pitches ≡ length (pitches_of is) = omega (arith, pitches_fold None 0 0 is) in
     let q : (fold step_sounds sounds₀ is).signifiers ≡ length (signifiers_of is) = omega (arith, signifiers_fold sounds₀ is) in
     let m = marks_fold no_marks is in
     let a : (fold step_marks no_marks is).articulations ≡ length (articulations_of is) = omega (arith, m.articulations) in

@@ -7,14 +7,13 @@ use mathlib.Core.Bool.{Bool, true, false, cond}
 use lib.ListN.{length, length-append}
 use Rattle.pitch.specs.Pitch.{pitch_of}
 use Rattle.pitch.specs.declared.Pitch.{Pitch}
-use Rattle.pitch.specs.declared.Pitch.TheVariants.{At, Outside}
+use Rattle.std.specs.Prelude.{Option, Some, None}
 use Rattle.items.specs.declared.Item.{Item}
 use Rattle.items.specs.declared.Item.TheVariants.{Digits, Letters, Blank, Mark}
 use Rattle.token.specs.Token.{fits, passes, begun, signed, given, heard, signifiers}
 use Rattle.scan.specs.Steps.{step_sounds, with_unknown, sounded}
 use Rattle.scan.specs.declared.Sounds.{Sounds}
-use Rattle.token.specs.declared.pitches.Sound.{Sound}
-use Rattle.token.specs.declared.pitches.Sound.TheVariants.{Silence, Of}
+use Rattle.token.specs.declared.pitches.Tone.{Tone}
 use Rattle.scan.proofs.FoldLaws.{fold}
 
 -- ---- signifiers
@@ -39,22 +38,22 @@ signifiers_fold s (Mark b ∷ is) = go (passes s.sounding b) (signifiers_fold s 
     go false a e = omega arith
 
 -- ---- pitches: the one of the sub-token so far is counted already
-abbrev held : Sound → Bool
-held Silence = false
-held (Of t) = true
+abbrev held : Option Tone → Bool
+held None = false
+held (Some t) = true
 
-abbrev one : Sound → ℕ
-one Silence = 0
-one (Of t) = 1
+abbrev one : Option Tone → ℕ
+one None = 0
+one (Some t) = 1
 
-length_given : (p : Sound) → length (given p) ≡ one p
-length_given Silence = refl
-length_given (Of t) = refl
+length_given : (p : Option Tone) → length (given p) ≡ one p
+length_given None = refl
+length_given (Some t) = refl
 
 abbrev pub sounds : Bool → ℕ → ℕ → Sounds
 sounds sounding pitches signifiers = record { sounding = sounding; pitches = pitches; signifiers = signifiers }
 
-pub pitches_fold : (p : Sound) (n m : ℕ) (is : List Item)
+pub pitches_fold : (p : Option Tone) (n m : ℕ) (is : List Item)
     → (fold step_sounds (sounds (held p) n m) is).pitches + one p ≡ n + length (heard p is)
 unfolding heard
 pitches_fold p n m [] = omega (arith, length_given p)
@@ -62,23 +61,23 @@ pitches_fold p n m (Digits v ∷ is) = pitches_fold p n m is
 pitches_fold p n m (Letters c k ∷ is) =
     run p (pitch_of c k) (λ q a b. pitches_fold q a b is)
   where
-    run : (p : Sound) (r : Pitch) → ((q : Sound) (a b : ℕ) → (fold step_sounds (sounds (held q) a b) is).pitches + one q ≡ a + length (heard q is))
+    run : (p : Option Tone) (r : Option Pitch) → ((q : Option Tone) (a b : ℕ) → (fold step_sounds (sounds (held q) a b) is).pitches + one q ≡ a + length (heard q is))
         → (fold step_sounds (cond (fits (held p) r) (sounds true (n + 1) m) (sounds (held p) n (m + 1))) is).pitches + one p ≡ n + length (heard (begun p r) is)
-    run Silence (At step octave) ih = let e = ih (Of (record { step = step; octave = octave; alter = 128 })) (n + 1) m in omega arith
-    run Silence Outside ih = ih Silence n (m + 1)
-    run (Of t) (At step octave) ih = ih (Of t) n (m + 1)
-    run (Of t) Outside ih = ih (Of t) n (m + 1)
+    run None (Some r) ih = let e = ih (Some (record { step = r.step; octave = r.octave; alter = 128 })) (n + 1) m in omega arith
+    run None None ih = ih None n (m + 1)
+    run (Some t) (Some r) ih = ih (Some t) n (m + 1)
+    run (Some t) None ih = ih (Some t) n (m + 1)
 pitches_fold p n m (Blank ∷ is) =
-    let e = pitches_fold Silence n m is in
-    omega (arith, length-append (given p) (heard Silence is), length_given p)
+    let e = pitches_fold None n m is in
+    omega (arith, length-append (given p) (heard None is), length_given p)
 pitches_fold p n m (Mark b ∷ is) = mark p (passes (held p) b) (λ q a c. pitches_fold q a c is)
   where
-    mark : (p : Sound) (t : Bool) → ((q : Sound) (a c : ℕ) → (fold step_sounds (sounds (held q) a c) is).pitches + one q ≡ a + length (heard q is))
+    mark : (p : Option Tone) (t : Bool) → ((q : Option Tone) (a c : ℕ) → (fold step_sounds (sounds (held q) a c) is).pitches + one q ≡ a + length (heard q is))
         → (fold step_sounds (cond t (sounds (held p) n m) (sounds (held p) n (m + 1))) is).pitches + one p ≡ n + length (heard (signed p b) is)
-    mark Silence true ih = ih Silence n m
-    mark Silence false ih = ih Silence n (m + 1)
-    mark (Of x) true ih = ih (signed (Of x) b) n m
-    mark (Of x) false ih = ih (signed (Of x) b) n (m + 1)
+    mark None true ih = ih None n m
+    mark None false ih = ih None n (m + 1)
+    mark (Some x) true ih = ih (signed (Some x) b) n m
+    mark (Some x) false ih = ih (signed (Some x) b) n (m + 1)
 
 -- ---- no count grows by more than one
 pub record Slow (s t : Sounds) : Type 0 where

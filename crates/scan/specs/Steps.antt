@@ -1,5 +1,5 @@
 -- What one pass over a token collects, and how it goes on by an item.
-use Rattle.std.specs.Prelude.{◌≡◌, ℕ, ◌+◌, ◌≤◌, ◌<◌, List, Bool, true, false, cond, not, ◌||◌, eqb, ltb, length, get_or}
+use Rattle.std.specs.Prelude.{◌≡◌, ℕ, ◌+◌, ◌≤◌, ◌<◌, List, Bool, true, false, cond, not, ◌||◌, eqb, ltb, length, get_or, Option}
 use Rattle.slices.specs.Ascii.{ascii}
 use Rattle.notation.specs.Bytes.{contains}
 use Rattle.pitch.specs.Pitch.{pitch_of}
@@ -7,9 +7,9 @@ use Rattle.items.specs.declared.Item.{Item}
 use Rattle.items.specs.declared.Item.TheVariants.{Digits, Letters, Blank, Mark}
 use Rattle.duration.specs.declared.Value.{Value}
 use Rattle.token.specs.declared.scan.Given.{Given}
-use Rattle.token.specs.declared.scan.Given.TheVariants.{Nothing, Length}
+use Rattle.token.specs.declared.scan.Given.TheVariants.{Nothing, NoValue, Length}
 use Rattle.token.specs.declared.scan.Scan.{Scan}
-use Rattle.token.specs.Token.{grace_by, articulation, fits, passes, is_unknown}
+use Rattle.token.specs.Token.{given_by, grace_by, articulation, fits, passes, is_unknown}
 use Rattle.scan.specs.declared.Lengths.{Lengths}
 use Rattle.scan.specs.declared.First.{First}
 use Rattle.scan.specs.declared.Sounds.{Sounds}
@@ -28,8 +28,9 @@ step_lengths l (Letters c n) = record { had = l.had; behind = false; bad = l.bad
 step_lengths l Blank = record { had = false; behind = false; bad = l.bad }
 step_lengths l (Mark b) = record { had = l.had; behind = false; bad = cond (eqb b 37) (l.bad || l.behind) l.bad }
 
-abbrev pub or_given : Given → Value → Given
-or_given Nothing v = Length v
+abbrev pub or_given : Given → Option Value → Given
+or_given Nothing v = given_by v
+or_given NoValue v = NoValue
 or_given (Length w) v = Length w
 
 unfoldable pub dots_by : ℕ → ℕ → ℕ

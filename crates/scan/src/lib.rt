@@ -12,7 +12,6 @@ ghost use Rattle.scan.specs.Steps.{Unknowns, step_lengths, or_given, dots_by, in
 
 use duration::Value;
 use items::Item;
-use pitch::Pitch;
 use token::scan::{Given, Scan};
 
 // Whether digits stand before in the sub-token, and right before; whether a length was bad.
@@ -103,13 +102,14 @@ fn step_lengths(l: Lengths, item: Item) -> Lengths
     }
 }
 
-// The first digits' value stays.
-fn or_given(g: Given, v: Value) -> Given
-    ensures { result ≡ or_given g v }
+// The first digits stay.
+fn or_given(given: Given, v: Option<Value>) -> Given
+    ensures { result ≡ or_given given v }
 {
-    match g {
-        Given::Nothing => Given::Length(v),
-        Given::Length(w) => Given::Length(w),
+    match (given, v) {
+        (Given::Nothing, Some(value)) => Given::Length(value),
+        (Given::Nothing, None) => Given::NoValue,
+        _ => given,
     }
 }
 
@@ -192,13 +192,7 @@ fn step_first(f: First, item: Item) -> First
 pub fn fits(sounding: bool, letter: u8, count: usize) -> bool
     ensures { result ≡ fits sounding (pitch_of letter count) }
 {
-    if sounding {
-        return false;
-    }
-    match pitch::pitch_of(letter, count) {
-        Pitch::At { step: _, octave: _ } => true,
-        Pitch::Outside => false,
-    }
+    !sounding && pitch::pitch_of(letter, count).is_some()
 }
 
 // The marks with a meaning, a bit each: those below 64, and those from 64 to 127.

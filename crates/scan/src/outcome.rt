@@ -1,100 +1,61 @@
-// What becomes of a token: nothing, a notice, or a note.
+// What becomes of a token: nothing, a note, or a notice.
 ghost use Rattle.std.specs.Prelude.{◌≡◌};
-ghost use Rattle.token.specs.Outcome.{note_of, by_value, without_digits, measured, outcome_of};
+ghost use Rattle.token.specs.Outcome.{noted_as, outcome_of};
 
 use duration::Value;
-use token::outcome::{Note, Outcome};
+use token::outcome::{Note, Unread};
 use token::scan::{Given, Scan};
 
-// The note of a token.
-fn note_of(inferred: bool, value: u8, actual: u8, normal: u8, s: Scan) -> Note
-    ensures { result ≡ note_of inferred value actual normal s }
+// The note of a token; a rest has no ties and no pitches.
+#[tactic(auto, unfolding(token::specs::Outcome::note_of))]
+fn note_of(inferred: bool, v: Value, s: Scan) -> Note
+    ensures { result ≡ noted_as inferred v s }
 {
-    if s.rest {
-        return Note {
+    let (value, actual, normal) = match v {
+        Value::Plain(value) => (value, 0, 0),
+        Value::Tuplet {
             value,
             actual,
             normal,
-            dots: s.dots,
-            inferred,
-            rest: true,
-            ties: false,
-            tied: false,
-            slurs: s.slurs,
-            slurred: s.slurred,
-            grace: s.grace,
-            pitches: 0,
-            articulations: s.articulations,
-        };
-    }
+        } => (value, actual, normal),
+    };
     Note {
         value,
         actual,
         normal,
         dots: s.dots,
         inferred,
-        rest: false,
-        ties: s.ties,
-        tied: s.tied,
+        rest: s.rest,
+        ties: s.ties && !s.rest,
+        tied: s.tied && !s.rest,
         slurs: s.slurs,
         slurred: s.slurred,
         grace: s.grace,
-        pitches: s.pitches,
+        pitches: if s.rest { 0 } else { s.pitches },
         articulations: s.articulations,
     }
 }
 
-// A note of a value; the notice `number` where it is Missing.
-fn by_value(number: u8, inferred: bool, v: Value, s: Scan) -> Outcome
-    ensures { result ≡ by_value number inferred v s }
-{
-    match v {
-        Value::Missing => Outcome::Unread(number),
-        Value::Plain(value) => Outcome::Heard(note_of(inferred, value, 0, 0, s)),
-        Value::Tuplet {
-            value,
-            actual,
-            normal,
-        } => Outcome::Heard(note_of(inferred, value, actual, normal, s)),
-    }
-}
-
-// A token without digits in its first sub-token.
-fn without_digits(s: Scan, inferred: Value) -> Outcome
-    ensures { result ≡ without_digits s inferred }
-{
-    if s.grace == 0 {
-        return by_value(21, true, inferred, s);
-    }
-    by_value(19, false, Value::Plain(5), s)
-}
-
-// A token with a pitch or a rest.
-fn measured(s: Scan, inferred: Value) -> Outcome
-    ensures { result ≡ measured s inferred }
-{
-    let given = s.given;
-    match given {
-        Given::Nothing => without_digits(s, inferred),
-        Given::Length(v) => by_value(19, false, v, s),
-    }
-}
-
-// What becomes of a token by its scan; `inferred` is the length that its peers give, Missing where they give none.
-pub fn kern_token(s: Scan, inferred: Value) -> Outcome
+// What becomes of a token by its scan, None where it is silent; `inferred` is the length that its peers give, None where they give none.
+#[tactic(auto, using(std::proofs::lemmas::Bool::Decides::nat_tests), unfolding(token::specs::Outcome::outcome_of, token::specs::Outcome::without_digits))]
+pub fn kern_token(s: Scan, inferred: Option<Value>) -> Result<Option<Note>, Unread>
     ensures { result ≡ outcome_of s inferred }
 {
     if s.silent {
-        return Outcome::Silent;
+        return Ok(None);
     }
     if s.bad {
-        return Outcome::Unread(16);
+        return Err(Unread::BadLength);
     }
-    if s.rest {
-        return measured(s, inferred);
+    if !s.rest && s.pitches == 0 {
+        return Err(Unread::NoPitch);
     }
-    if s.pitches == 0 {
-        return Outcome::Unread(18);
-    }
-    measured(s, inferred)
+    let note = match s.given {
+        Given::Length(value) => note_of(false, value, s),
+        Given::NoValue => return Err(Unread::BadReciprocal),
+        // a grace without digits is an eighth
+        Given::Nothing if s.grace != 0 => note_of(false, Value::Plain(5), s),
+        Given::Nothing => note_of(true, inferred.ok_or(Unread::NoLength)?, s),
+    };
+    Ok(Some(note))
 }

@@ -15,10 +15,9 @@ use Rattle.interpretation.specs.Unsupported.{notice_number, Says}
 use Rattle.reference.specs.Reference.{reference_of}
 use Rattle.reference.specs.declared.Key.{Key as Named}
 use Rattle.reference.specs.declared.Key.TheVariants.{Title, Composer, Lyricist, Other as OtherKey}
-use Rattle.token.specs.Outcome.{read_token, reported}
+use Rattle.token.specs.Outcome.{Outcome, notice_number, read_token, reported}
 use Rattle.token.specs.declared.outcome.Note.{Note}
-use Rattle.token.specs.declared.outcome.Outcome.{Outcome}
-use Rattle.token.specs.declared.outcome.Outcome.TheVariants.{Silent, Unread, Heard}
+use Rattle.std.specs.Prelude.{Some, None, Ok, Err}
 use Rattle.paths.specs.declared.PathToken.{PathToken}
 use Rattle.paths.specs.declared.PathToken.TheVariants.{Split, Join, Exchange, End, Add, Other}
 use Rattle.paths.specs.Token.{path_token}
@@ -174,9 +173,9 @@ note_is {row} {n} p v k j t x st h = go (ltb st.notes 100000) x.inferred
     go false inferred = tt
 
 outcome_is : {row : List Spine} {n : ℕ} (o : Outcome) (p v k j : ℕ) (t : Token) (st : State) → Is row n st → IsStep row n (by_outcome o p v k j t st)
-outcome_is Silent p v k j t st h = h
-outcome_is (Unread number) p v k j t st h = notify_is number k j (span_of_token t) st h
-outcome_is (Heard x) p v k j t st h = note_is p v k j t x st h
+outcome_is (Ok None) p v k j t st h = h
+outcome_is (Err why) p v k j t st h = notify_is (notice_number why) k j (span_of_token t) st h
+outcome_is (Ok (Some x)) p v k j t st h = note_is p v k j t x st h
 
 signify_is : {row : List Spine} {n : ℕ} (bytes : List ℕ) (k j : ℕ) (st : State) → Is row n st → Is row n (signify bytes k j st).state
 signify_is [] k j st h = h

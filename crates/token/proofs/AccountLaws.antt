@@ -1,6 +1,6 @@
 -- What the reading makes of a token is what the text says: a note where it says so, of the same length.
 use mathlib.Core.Path.{◌≡◌, refl, sym, ap, subst, ◌∙◌}
-use Prim.Native.Nat.{ℕ, suc, ◌^◌, ◌≤◌}
+use Prim.Native.Nat.{ℕ, suc, ◌≤◌}
 use native.Mathlib.Omega.{arith}
 use mathlib.Core.List.{List, [], ◌∷◌}
 use mathlib.Core.Bool.{Bool, true, false, cond, not, ◌&&◌, ◌||◌}
@@ -8,32 +8,33 @@ use lib.Dec.{eqb, ltb}
 use lib.ListN.{length, get_or}
 use borrow.Author.Tests.{eqb-true, eqb-false, lt-ltb, le-ltb}
 use Rattle.slices.specs.Compare.{same_bytes}
-use Rattle.duration.specs.Duration.{number, counts, written, written_at, exponent_of, duration_of}
+use Rattle.duration.specs.Duration.{number, counts, written, duration_of}
 use Rattle.duration.specs.Length.{Fraction, ◌over◌, SameLength, note_length}
 use Rattle.duration.specs.Reciprocal.{reciprocal_length, dotted}
 use Rattle.duration.specs.declared.Value.{Value}
-use Rattle.duration.specs.declared.Value.TheVariants.{Missing, Plain, Tuplet}
+use Rattle.duration.specs.declared.Value.TheVariants.{Plain, Tuplet}
+use Rattle.std.specs.Prelude.{Option, Some, None, Ok, Err}
 use Rattle.duration.proofs.Lengths.{grace_length}
 use Rattle.duration.proofs.Reference.{plain_agrees, tuplet_agrees}
 use Rattle.items.specs.Items.{is_digit, is_letter, runs, item_of, items_of, items}
 use Rattle.items.specs.declared.Item.{Item}
 use Rattle.items.specs.declared.Item.TheVariants.{Digits, Letters, Blank, Mark}
-use Rattle.token.specs.Token.{is_blank, bad_length, up_to_blank, first_sub, given_in, is_silent, dots_of, rest_of, pitches_of, articulations_of}
+use Rattle.token.specs.Token.{is_blank, bad_length, given_by, up_to_blank, first_sub, given_in, is_silent, dots_of, rest_of, pitches_of, articulations_of}
 use Rattle.token.specs.Scan.{scan_items, scan_of}
-use Rattle.token.specs.Outcome.{note_of, by_value, noted, from_peers, without_digits, by_given, measured, outcome_of, read_token, note_pitches}
+use Rattle.token.specs.Outcome.{Outcome, note_of, by_value, noted, from_peers, without_digits, by_given, measured, outcome_of, read_token, note_pitches}
 use Rattle.token.specs.Account.{digits_in, first_digits, has_value, or_peers, has_length, is_grace, is_note, account_length}
 use Rattle.token.specs.declared.scan.Scan.{Scan}
 use Rattle.token.specs.declared.scan.Given.{Given}
-use Rattle.token.specs.declared.scan.Given.TheVariants.{Nothing, Length}
+use Rattle.token.specs.declared.scan.Given.TheVariants.{Nothing, NoValue, Length}
 use Rattle.token.specs.declared.pitches.Tone.{Tone}
 use Rattle.token.specs.declared.outcome.Note.{Note}
-use Rattle.token.specs.declared.outcome.Outcome.{Outcome}
-use Rattle.token.specs.declared.outcome.Outcome.TheVariants.{Silent, Unread, Heard}
+use Rattle.token.specs.declared.outcome.Unread.{Unread}
+use Rattle.token.specs.declared.outcome.Unread.TheVariants.{BadLength, NoPitch, BadReciprocal, NoLength}
 
 -- ---- the digits of the first sub-token, as bytes and as the value that they write
 abbrev value_of : List ℕ → Given
 value_of [] = Nothing
-value_of (x ∷ xs) = Length (duration_of (x ∷ xs))
+value_of (x ∷ xs) = given_by (duration_of (x ∷ xs))
 
 -- a run by its kind
 data Kind (r : List ℕ) : Type 0 where
@@ -77,38 +78,34 @@ first_digits_lem (r ∷ rs) = go (is_blank (item_of r)) refl (first_digits_lem r
     go false e ih = rw e at (digits_in_lem (r ∷ rs))
 
 -- ---- whether it is a note
-abbrev is_value : Value → Bool
-is_value Missing = false
-is_value (Plain v) = true
-is_value (Tuplet v a n) = true
-
-written_by : (t : Bool) (v w a n : ℕ) → is_value (cond t (Plain v) (Tuplet w a n)) ≡ true
-written_by true v w a n = refl
-written_by false v w a n = refl
-
-written_value : (n : ℕ) → is_value (written n) ≡ true
-unfolding written written_at
-written_value n = written_by (eqb n (2 ^ exponent_of 7 n)) _ _ _ _
+abbrev is_value : Option Value → Bool
+is_value None = false
+is_value (Some v) = true
 
 has_value_lem : (s : List ℕ) → is_value (duration_of s) ≡ has_value s
 unfolding duration_of has_value
 has_value_lem s = go (same_bytes (48 ∷ []) s) (same_bytes (48 ∷ 48 ∷ []) s) (counts s)
   where
-    go : (a b c : Bool) → is_value (cond a (Plain 1) (cond b (Plain 0) (cond c (written (number s)) Missing))) ≡ (a || (b || c))
+    go : (a b c : Bool) → is_value (cond a (Some (Plain 1)) (cond b (Some (Plain 0)) (cond c (Some (written (number s))) None))) ≡ (a || (b || c))
     go true b c = refl
     go false true c = refl
-    go false false true = written_value (number s)
+    go false false true = refl
     go false false false = refl
 
 abbrev pub is_heard : Outcome → Bool
-is_heard Silent = false
-is_heard (Unread n) = false
-is_heard (Heard n) = true
+is_heard (Ok None) = false
+is_heard (Err why) = false
+is_heard (Ok (Some n)) = true
 
-heard_value : (number : ℕ) (i : Bool) (v : Value) (s : Scan) → is_heard (by_value number i v s) ≡ is_value v
-heard_value number i Missing s = refl
-heard_value number i (Plain v) s = refl
-heard_value number i (Tuplet v a n) s = refl
+heard_value : (why : Unread) (i : Bool) (v : Option Value) (s : Scan) → is_heard (by_value why i v s) ≡ is_value v
+heard_value why i None s = refl
+heard_value why i (Some (Plain v)) s = refl
+heard_value why i (Some (Tuplet v a n)) s = refl
+
+-- digits in the first sub-token give a note of their value
+pub given_noted : (v w : Option Value) (s : Scan) → by_given (given_by v) s w ≡ noted v s
+given_noted None w s = refl
+given_noted (Some v) w s = refl
 
 -- a grace, by the tests of the code and of the account
 no_grace : (g : ℕ) → eqb g 0 ≡ true → ltb 0 g ≡ false
@@ -122,13 +119,14 @@ unfolding without_digits
 heard_by [] peers s = go (eqb s.grace 0) (ltb 0 s.grace) (no_grace s.grace) (some_grace s.grace) refl
   where
     go : (t g : Bool) → (eqb s.grace 0 ≡ true → g ≡ false) → (eqb s.grace 0 ≡ false → g ≡ true) → eqb s.grace 0 ≡ t
-        → is_heard (cond t (from_peers (duration_of peers) s) (noted (Plain 5) s)) ≡ (g || has_value peers)
-    go true g p q e = rw (p e) (heard_value 21 true (duration_of peers) s ∙ has_value_lem peers)
+        → is_heard (cond t (from_peers (duration_of peers) s) (noted (Some (Plain 5)) s)) ≡ (g || has_value peers)
+    go true g p q e = rw (p e) (heard_value NoLength true (duration_of peers) s ∙ has_value_lem peers)
     go false g p q e = rw (q e)
-heard_by (x ∷ xs) peers s = heard_value 19 false (duration_of (x ∷ xs)) s ∙ has_value_lem (x ∷ xs)
+heard_by (x ∷ xs) peers s =
+    ap is_heard (given_noted (duration_of (x ∷ xs)) (duration_of peers) s) ∙ heard_value BadReciprocal false (duration_of (x ∷ xs)) s ∙ has_value_lem (x ∷ xs)
 
 heard_after : (a b c d k : Bool) (m : Outcome) → is_heard m ≡ k
-    → is_heard (cond a Silent (cond b (Unread 16) (cond c m (cond d (Unread 18) m)))) ≡ (not a && (not b && ((c || not d) && k)))
+    → is_heard (cond a (Ok None) (cond b (Err BadLength) (cond c m (cond d (Err NoPitch) m)))) ≡ (not a && (not b && ((c || not d) && k)))
 heard_after true b c d k m e = refl
 heard_after false true c d k m e = refl
 heard_after false false true d k m e = e
@@ -149,29 +147,29 @@ lasts n = note_length n.value n.dots n.actual n.normal (ltb 0 n.grace)
 
 -- what holds of a note, where there is one
 abbrev OfNote : (Note → Type 0) → Outcome → Type 0
-OfNote P Silent = Unit {0}
-OfNote P (Unread n) = Unit {0}
-OfNote P (Heard n) = P n
+OfNote P (Ok None) = Unit {0}
+OfNote P (Err why) = Unit {0}
+OfNote P (Ok (Some n)) = P n
 
 after_by : (P : Note → Type 0) (a b c d : Bool) (m : Outcome) → OfNote P m
-    → OfNote P (cond a Silent (cond b (Unread 16) (cond c m (cond d (Unread 18) m))))
+    → OfNote P (cond a (Ok None) (cond b (Err BadLength) (cond c m (cond d (Err NoPitch) m))))
 after_by P true b c d m h = tt
 after_by P false true c d m h = tt
 after_by P false false true d m h = h
 after_by P false false false true m h = tt
 after_by P false false false false m h = h
 
-after : (P : Note → Type 0) (s : Scan) (v : Value) → OfNote P (measured s v) → OfNote P (outcome_of s v)
+after : (P : Note → Type 0) (s : Scan) (v : Option Value) → OfNote P (measured s v) → OfNote P (outcome_of s v)
 unfolding outcome_of
 after P s v h = after_by P s.silent s.bad s.rest (eqb s.pitches 0) (measured s v) h
 
 module _ (ds : List ℕ) (v d a n : ℕ) (few : d ≤ 3) where
-  plain_lasts : (grace : Bool) → duration_of ds ≡ Plain v
+  plain_lasts : (grace : Bool) → duration_of ds ≡ Some (Plain v)
       → SameLength (note_length v d 0 0 grace) (cond grace (0 over 1) (dotted d (reciprocal_length ds)))
   plain_lasts true e = rw (grace_length v d 0 0)
   plain_lasts false e = plain_agrees ds v d e few
 
-  tuplet_lasts : (grace : Bool) → duration_of ds ≡ Tuplet v a n
+  tuplet_lasts : (grace : Bool) → duration_of ds ≡ Some (Tuplet v a n)
       → SameLength (note_length v d a n grace) (cond grace (0 over 1) (dotted d (reciprocal_length ds)))
   tuplet_lasts true e = rw (grace_length v d a n)
   tuplet_lasts false e = tuplet_agrees ds v a n d e few
@@ -184,11 +182,11 @@ abbrev LastsAs : Fraction → Note → Type 0
 LastsAs f n = SameLength (lasts n) f
 
 module _ (s : Scan) (few : s.dots ≤ 3) where
-  value_lasts : (number : ℕ) (i : Bool) (ds : List ℕ) (v : Value) → duration_of ds ≡ v → OfNote (LastsAs (said_by s ds)) (by_value number i v s)
+  value_lasts : (why : Unread) (i : Bool) (ds : List ℕ) (v : Option Value) → duration_of ds ≡ v → OfNote (LastsAs (said_by s ds)) (by_value why i v s)
   unfolding note_of
-  value_lasts number i ds Missing e = tt
-  value_lasts number i ds (Plain v) e = plain_lasts ds v s.dots 0 0 few (ltb 0 s.grace) e
-  value_lasts number i ds (Tuplet v a n) e = tuplet_lasts ds v s.dots a n few (ltb 0 s.grace) e
+  value_lasts why i ds None e = tt
+  value_lasts why i ds (Some (Plain v)) e = plain_lasts ds v s.dots 0 0 few (ltb 0 s.grace) e
+  value_lasts why i ds (Some (Tuplet v a n)) e = tuplet_lasts ds v s.dots a n few (ltb 0 s.grace) e
 
   grace_lasts : (ds : List ℕ) (t : Bool) → ltb 0 s.grace ≡ t → t ≡ true
       → SameLength (note_length 5 s.dots 0 0 t) (cond t (0 over 1) (dotted s.dots (reciprocal_length ds)))
@@ -198,10 +196,10 @@ module _ (s : Scan) (few : s.dots ≤ 3) where
   unfolding without_digits note_of
   by_lasts [] peers = go (eqb s.grace 0) refl
     where
-      go : (t : Bool) → eqb s.grace 0 ≡ t → OfNote (LastsAs (said_by s peers)) (cond t (from_peers (duration_of peers) s) (noted (Plain 5) s))
-      go true e = value_lasts 21 true peers (duration_of peers) refl
+      go : (t : Bool) → eqb s.grace 0 ≡ t → OfNote (LastsAs (said_by s peers)) (cond t (from_peers (duration_of peers) s) (noted (Some (Plain 5)) s))
+      go true e = value_lasts NoLength true peers (duration_of peers) refl
       go false e = grace_lasts peers (ltb 0 s.grace) refl (some_grace s.grace e)
-  by_lasts (x ∷ xs) peers = value_lasts 19 false (x ∷ xs) (duration_of (x ∷ xs)) refl
+  by_lasts (x ∷ xs) peers = subst (OfNote (LastsAs (said_by s (x ∷ xs)))) (sym (given_noted (duration_of (x ∷ xs)) (duration_of peers) s)) (value_lasts BadReciprocal false (x ∷ xs) (duration_of (x ∷ xs)) refl)
 
 few_dots : (is : List Item) → dots_of is ≤ 3
 unfolding dots_of
@@ -215,7 +213,7 @@ note_lasts token peers =
     (by_lasts (scan_of token) (few_dots (items token)) (first_digits (runs token)) peers))
 
 -- its value, dots and tuplet give exactly the account's length
-pub length_agrees : (token peers : List ℕ) (n : Note) → read_token token peers ≡ Heard n → SameLength (lasts n) (account_length token peers)
+pub length_agrees : (token peers : List ℕ) (n : Note) → read_token token peers ≡ Ok (Some n) → SameLength (lasts n) (account_length token peers)
 length_agrees token peers n e = rw e at (note_lasts token peers)
 
 -- ---- its pitches
@@ -225,21 +223,22 @@ no_rest false ts = refl
 
 -- every note of a scan has the lists of the scan
 module _ (P : Note → Type 0) (s : Scan) (each : (i : Bool) (v a n : ℕ) → P (note_of i v a n s)) where
-  value_of_lem : (number : ℕ) (i : Bool) (v : Value) → OfNote P (by_value number i v s)
-  value_of_lem number i Missing = tt
-  value_of_lem number i (Plain v) = each i v 0 0
-  value_of_lem number i (Tuplet v a n) = each i v a n
+  value_of_lem : (why : Unread) (i : Bool) (v : Option Value) → OfNote P (by_value why i v s)
+  value_of_lem why i None = tt
+  value_of_lem why i (Some (Plain v)) = each i v 0 0
+  value_of_lem why i (Some (Tuplet v a n)) = each i v a n
 
-  given_of : (g : Given) (v : Value) → OfNote P (by_given g s v)
+  given_of : (g : Given) (v : Option Value) → OfNote P (by_given g s v)
   unfolding without_digits
   given_of Nothing v = go (eqb s.grace 0)
     where
-      go : (t : Bool) → OfNote P (cond t (from_peers v s) (noted (Plain 5) s))
-      go true = value_of_lem 21 true v
+      go : (t : Bool) → OfNote P (cond t (from_peers v s) (noted (Some (Plain 5)) s))
+      go true = value_of_lem NoLength true v
       go false = each false 5 0 0
-  given_of (Length w) v = value_of_lem 19 false w
+  given_of NoValue v = tt
+  given_of (Length w) v = value_of_lem BadReciprocal false (Some w)
 
-  outcome_of_lem : (v : Value) → OfNote P (outcome_of s v)
+  outcome_of_lem : (v : Option Value) → OfNote P (outcome_of s v)
   outcome_of_lem v = after P s v (given_of s.given v)
 
 -- the lists that belong to a note
@@ -251,8 +250,8 @@ each_listed : (token : List ℕ) (i : Bool) (v a n : ℕ) → Listed token (note
 unfolding note_of scan_items
 each_listed token i v a n = record { pitches = no_rest (rest_of (items token)) (pitches_of (items token)); articulations = refl }
 
-pub heard_lists : (token : List ℕ) (v : Value) {n : Note} {o : Outcome} → o ≡ outcome_of (scan_of token) v → o ≡ Heard n → Listed token n
+pub heard_lists : (token : List ℕ) (v : Option Value) {n : Note} {o : Outcome} → o ≡ outcome_of (scan_of token) v → o ≡ Ok (Some n) → Listed token n
 heard_lists token v e q = subst (OfNote (Listed token)) (sym e ∙ q) (outcome_of_lem (Listed token) (scan_of token) (each_listed token) v)
 
-pub lists_agree : (token peers : List ℕ) (n : Note) → read_token token peers ≡ Heard n → Listed token n
+pub lists_agree : (token peers : List ℕ) (n : Note) → read_token token peers ≡ Ok (Some n) → Listed token n
 lists_agree token peers n e = heard_lists token (duration_of peers) refl e

@@ -12,11 +12,10 @@ use Rattle.notation.specs.Bytes.{contains}
 use Rattle.items.specs.Items.{is_letter, joins, into, runs, item_of, items_of}
 use Rattle.token.specs.Token.{bad_length, up_to_blank, first_sub, is_silent, given_in, marks, count_of, dots_of, rest_of, any_of, grace_by, grace_from, articulation, articulations_in, heard, passes, signifiers}
 use Rattle.token.specs.Scan.{scan_items}
-use Rattle.token.specs.Outcome.{note_of, without_digits, outcome_of, read_token, reported, note_pitches}
+use Rattle.token.specs.Outcome.{Outcome, notice_number, note_of, without_digits, outcome_of, read_token, reported, note_pitches}
 use Rattle.token.specs.declared.pitches.Tone.{Tone}
 use Rattle.token.specs.declared.outcome.Note.{Note}
-use Rattle.token.specs.declared.outcome.Outcome.{Outcome}
-use Rattle.token.specs.declared.outcome.Outcome.TheVariants.{Silent, Unread, Heard}
+use Rattle.std.specs.Prelude.{Some, None, Ok, Err}
 
 -- a token, the digits of its peers, what becomes of it, the signifiers, and its pitches
 pub data Line : Type 0 where
@@ -33,9 +32,9 @@ flags n =
 
 -- nothing; a notice; or 0, or 20 where the length is inferred, with value, actual, normal, dots and flags
 abbrev pub shown : Outcome → List ℕ
-shown Silent = []
-shown (Unread n) = n ∷ []
-shown (Heard n) = bit n.inferred 20 ∷ n.value ∷ n.actual ∷ n.normal ∷ n.dots ∷ flags n ∷ []
+shown (Ok None) = []
+shown (Err why) = notice_number why ∷ []
+shown (Ok (Some n)) = bit n.inferred 20 ∷ n.value ∷ n.actual ∷ n.normal ∷ n.dots ∷ flags n ∷ []
 
 -- step, octave, and the alteration with 128 added
 abbrev pub tones : List Tone → List ℕ

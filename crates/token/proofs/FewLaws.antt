@@ -8,13 +8,12 @@ use lib.ListN.{length, length-append}
 use Rattle.token.specs.Outcome.{reported, note_pitches}
 use Rattle.pitch.specs.Pitch.{pitch_of}
 use Rattle.pitch.specs.declared.Pitch.{Pitch}
-use Rattle.pitch.specs.declared.Pitch.TheVariants.{At, Outside}
+use Rattle.std.specs.Prelude.{Option, Some, None}
+use Rattle.token.specs.declared.pitches.Tone.{Tone}
 use Rattle.items.specs.Items.{joins, into, runs, items_of, items}
 use Rattle.items.specs.declared.Item.{Item}
 use Rattle.items.specs.declared.Item.TheVariants.{Digits, Letters, Blank, Mark}
 use Rattle.token.specs.Token.{marks, articulation, articulations_in, fits, begun, signed, given, heard, passes, signifiers, bad_length, rest_of, articulations_of, pitches_of, signifiers_of}
-use Rattle.token.specs.declared.pitches.Sound.{Sound}
-use Rattle.token.specs.declared.pitches.Sound.TheVariants.{Silence, Of}
 
 into_few : (x : ℕ) (rs : List (List ℕ)) → length (into x rs) ≤ length rs + 1
 unfolding into
@@ -39,21 +38,21 @@ of_few (r ∷ rs) = omega (arith, of_few rs)
 pub items_few : (token : List ℕ) → length (items token) ≤ length token
 items_few token = omega (arith, of_few (runs token), runs_few token)
 
-begun_few : (s : Sound) (p : Pitch) → length (given (begun s p)) ≤ length (given s) + 1
-begun_few Silence (At step octave) = omega arith
-begun_few Silence Outside = omega arith
-begun_few (Of t) p = omega arith
+begun_few : (s : Option Tone) (p : Option Pitch) → length (given (begun s p)) ≤ length (given s) + 1
+begun_few None (Some p) = omega arith
+begun_few None None = omega arith
+begun_few (Some t) p = omega arith
 
-signed_few : (s : Sound) (b : ℕ) → length (given (signed s b)) ≤ length (given s)
-signed_few Silence b = omega arith
-signed_few (Of t) b = omega arith
+signed_few : (s : Option Tone) (b : ℕ) → length (given (signed s b)) ≤ length (given s)
+signed_few None b = omega arith
+signed_few (Some t) b = omega arith
 
-pub heard_few : (s : Sound) (is : List Item) → length (heard s is) ≤ length (given s) + length is
+pub heard_few : (s : Option Tone) (is : List Item) → length (heard s is) ≤ length (given s) + length is
 unfolding heard
 heard_few s [] = omega arith
 heard_few s (Digits v ∷ is) = omega (arith, heard_few s is)
 heard_few s (Letters c n ∷ is) = omega (arith, heard_few (begun s (pitch_of c n)) is, begun_few s (pitch_of c n))
-heard_few s (Blank ∷ is) = omega (arith, length-append (given s) (heard Silence is), heard_few Silence is)
+heard_few s (Blank ∷ is) = omega (arith, length-append (given s) (heard None is), heard_few None is)
 heard_few s (Mark b ∷ is) = omega (arith, heard_few (signed s b) is, signed_few s b)
 
 pub marks_few : (is : List Item) → length (marks is) ≤ length is
@@ -98,7 +97,7 @@ gives token =
     let few = items_few token in
     record {
       pitches =
-          either_few (rest_of (items token)) [] (pitches_of (items token)) (omega arith) (omega (arith, heard_few Silence (items token)));
+          either_few (rest_of (items token)) [] (pitches_of (items token)) (omega arith) (omega (arith, heard_few None (items token)));
       articulations = omega (arith, articulations_few (marks (items token)), marks_few (items token));
       signifiers =
           either_few (bad_length false false (items token)) [] (signifiers_of (items token)) (omega arith)

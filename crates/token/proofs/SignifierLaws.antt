@@ -5,6 +5,7 @@ use mathlib.Core.List.{List, [], ◌∷◌}
 use mathlib.Core.Bool.{Bool, true, false}
 use Rattle.pitch.specs.Pitch.{pitch_of}
 use Rattle.duration.specs.declared.Value.{Value}
+use Rattle.std.specs.Prelude.{Option}
 use Rattle.items.specs.declared.Item.{Item}
 use Rattle.items.specs.declared.Item.TheVariants.{Digits, Letters, Blank, Mark}
 use Rattle.token.specs.Token.{fits, passes, signifiers}
@@ -14,7 +15,7 @@ unfolding signifiers
 no_signifiers s = refl
 
 module _ (s : Bool) where
-  pub past_digits : (v : Value) (is : List Item) → signifiers s (Digits v ∷ is) ≡ signifiers s is
+  pub past_digits : (v : Option Value) (is : List Item) → signifiers s (Digits v ∷ is) ≡ signifiers s is
   unfolding signifiers
   past_digits v is = refl
 

@@ -1,18 +1,16 @@
 -- What a token says, aspect by aspect, over its items. A blank ends a sub-token; empty sub-tokens are passed over.
-use Rattle.std.specs.Prelude.{ℕ, zero, ◌+◌, min, List, [], ◌∷◌, ◌++◌, Bool, true, false, cond, not, ◌&&◌, ◌||◌, eqb, ltb}
+use Rattle.std.specs.Prelude.{ℕ, zero, ◌+◌, min, List, [], ◌∷◌, ◌++◌, Bool, true, false, cond, not, ◌&&◌, ◌||◌, eqb, ltb, Option, Some, None}
 use Rattle.slices.specs.Ascii.{ascii}
 use Rattle.notation.specs.Bytes.{contains}
 use Rattle.pitch.specs.Pitch.{pitch_of, altered_by}
 use Rattle.pitch.specs.declared.Pitch.{Pitch}
-use Rattle.pitch.specs.declared.Pitch.TheVariants.{At, Outside}
+use Rattle.duration.specs.declared.Value.{Value}
 use Rattle.items.specs.Items.{is_digit, is_letter}
 use Rattle.items.specs.declared.Item.{Item}
 use Rattle.items.specs.declared.Item.TheVariants.{Digits, Letters, Blank, Mark}
 use Rattle.token.specs.declared.scan.Given.{Given}
-use Rattle.token.specs.declared.scan.Given.TheVariants.{Nothing, Length}
+use Rattle.token.specs.declared.scan.Given.TheVariants.{Nothing, NoValue, Length}
 use Rattle.token.specs.declared.pitches.Tone.{Tone}
-use Rattle.token.specs.declared.pitches.Sound.{Sound}
-use Rattle.token.specs.declared.pitches.Sound.TheVariants.{Silence, Of}
 
 -- ---- lengths
 -- "16 `%` or repeated length": `had` says that digits stand before in this sub-token, `behind` that they stand right before
@@ -44,10 +42,15 @@ unfoldable pub is_silent : List Item → Bool
 is_silent [] = true
 is_silent (i ∷ is) = is_blank i && is_silent is
 
--- the value of the digits, if there are any
+-- what digits give: their value, or that they write none
+abbrev pub given_by : Option Value → Given
+given_by None = NoValue
+given_by (Some v) = Length v
+
+-- what the digits give, if there are any
 unfoldable pub given_in : List Item → Given
 given_in [] = Nothing
-given_in (Digits v ∷ is) = Length v
+given_in (Digits v ∷ is) = given_by v
 given_in (Letters c n ∷ is) = given_in is
 given_in (Blank ∷ is) = given_in is
 given_in (Mark b ∷ is) = given_in is
@@ -103,36 +106,36 @@ articulations_of is = articulations_in (marks is)
 
 -- ---- pitches
 -- whether a run of letters is the pitch of a sub-token: it has none yet, and the run fits
-abbrev pub fits : Bool → Pitch → Bool
+abbrev pub fits : Bool → Option Pitch → Bool
 fits true p = false
-fits false (At step octave) = true
-fits false Outside = false
+fits false (Some p) = true
+fits false None = false
 
 -- a sub-token's pitch begins natural: an alteration is held with 128 added
-abbrev pub begun : Sound → Pitch → Sound
-begun Silence (At step octave) = Of (record { step = step; octave = octave; alter = 128 })
-begun Silence Outside = Silence
-begun (Of t) p = Of t
+abbrev pub begun : Option Tone → Option Pitch → Option Tone
+begun None (Some p) = Some (record { step = p.step; octave = p.octave; alter = 128 })
+begun None None = None
+begun (Some t) p = Some t
 
 -- a byte behind the pitch: the signs `#`, `-` and `n` alter it
-abbrev pub signed : Sound → ℕ → Sound
-signed Silence b = Silence
-signed (Of t) b = Of (record { step = t.step; octave = t.octave; alter = altered_by t.alter b })
+abbrev pub signed : Option Tone → ℕ → Option Tone
+signed None b = None
+signed (Some t) b = Some (record { step = t.step; octave = t.octave; alter = altered_by t.alter b })
 
-abbrev pub given : Sound → List Tone
-given Silence = []
-given (Of t) = t ∷ []
+abbrev pub given : Option Tone → List Tone
+given None = []
+given (Some t) = t ∷ []
 
 -- the pitches in order, one of each sub-token that has one; the first argument is that of the sub-token so far
-unfoldable pub heard : Sound → List Item → List Tone
+unfoldable pub heard : Option Tone → List Item → List Tone
 heard s [] = given s
 heard s (Digits v ∷ is) = heard s is
 heard s (Letters c n ∷ is) = heard (begun s (pitch_of c n)) is
-heard s (Blank ∷ is) = given s ++ heard Silence is
+heard s (Blank ∷ is) = given s ++ heard None is
 heard s (Mark b ∷ is) = heard (signed s b) is
 
 abbrev pub pitches_of : List Item → List Tone
-pitches_of is = heard Silence is
+pitches_of is = heard None is
 
 -- ---- signifiers
 abbrev pub signs : List ℕ

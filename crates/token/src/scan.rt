@@ -1,15 +1,16 @@
 // What the signs of a token say.
 use duration::Value;
 
-// The value of the first sub-token's digits.
-#[derive(Clone, Copy)]
+// What the digits of the first sub-token give: nothing where there are none, no value where they write none.
+#[derive(Clone, Copy, PartialEq, Eq, Debug)]
 pub enum Given {
     Nothing,
+    NoValue,
     Length(Value),
 }
 
 // What a token says, without its lists, of which the lengths are given.
-#[derive(Clone, Copy)]
+#[derive(Clone, Copy, PartialEq, Eq, Debug)]
 pub struct Scan {
     pub bad: bool,
     pub silent: bool,

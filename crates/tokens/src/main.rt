@@ -7,7 +7,7 @@ ghost use Rattle.std.specs.Prelude.{◌≤◌};
 
 use duration::Value;
 use notation::beam::Beam;
-use token::outcome::{Note, Outcome};
+use token::outcome::{Note, Unread};
 
 fn print(bytes: &[u8]) {
     io::write_all(1, bytes);
@@ -97,12 +97,12 @@ fn print_signifiers(count: usize, token: &[u8]) {
 }
 
 // The length that a bare token takes from its record, of up to 16 columns.
-fn inferred_for(line: &[u8], token: &[u8]) -> Value {
+fn inferred_for(line: &[u8], token: &[u8]) -> Option<Value> {
     let row = [8u16; 16];
     if peers::is_bare(token) {
         return peers::agreed_duration(line, &row[..]);
     }
-    Value::Missing
+    None
 }
 
 fn answer(line: &[u8]) {
@@ -112,14 +112,14 @@ fn answer(line: &[u8]) {
     let inferred = inferred_for(line, token);
     let signifiers = scan.signifiers;
     match scan::outcome::kern_token(scan, inferred) {
-        Outcome::Silent => {}
-        Outcome::Unread(number) => {
-            if number != 16 {
+        Ok(None) => {}
+        Err(why) => {
+            if why != Unread::BadLength {
                 print_signifiers(signifiers, token);
             }
-            print_number(number as u64);
+            print_number(u64::from(why.notice()));
         }
-        Outcome::Heard(note) => {
+        Ok(Some(note)) => {
             print_signifiers(signifiers, token);
             if note.inferred {
                 print(b"20 ");

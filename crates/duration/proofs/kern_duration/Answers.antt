@@ -6,9 +6,9 @@ use Rattle.duration.proofs.kern_duration.Goals as goal
 pub returns-then-digits-gt4 : goal.returns-then-digits-gt4
 returns-then-digits-gt4 c = too_long _ c.if-digits-gt4.true
 
-pub returns-in-Not : goal.returns-in-Not
-returns-in-Not c = no_digits _ (sym c.in-Not.is ∙ c.parse.ensures)
+pub returns-in_err-parse : goal.returns-in_err-parse
+returns-in_err-parse c = c.from_residual.ensures ∙ no_digits _ (sym c.in_err-parse.was ∙ c.parse.ensures)
 
-pub returns-in-Is : goal.returns-in-Is
-returns-in-Is c = let p = parsed c.args.digits.now (sym c.in-Is.is ∙ c.parse.ensures) in
+pub returns : goal.returns
+returns c = let p = parsed c.args.digits.now (sym c.in_ok-parse.was ∙ c.parse.ensures) in
     c.value_by.ensures c.args.digits.now p.0 p.1 refl

@@ -1,25 +1,23 @@
--- `parse`: the number that the digits write. The digits from i on, read after n, decide; n has at most i places.
+-- `parse`: the number that the digits write. The digits from the index on, read after n, decide; n has at most as many places as were read.
+use mathlib.Core.Path.{sym, ◌∙◌}
 use native.Mathlib.Omega.{arith}
-use Rattle.duration.proofs.Numbers.{parse_first, parse_room, parse_low, parse_high, parse_turn, parse_past}
+use Rattle.duration.proofs.Numbers.{parse_first, parse_room, parse_stop, parse_turn, parse_past}
 use Rattle.duration.proofs.parse.Goals as goal
 
-pub loop-i-init : goal.loop-i-init
-loop-i-init c = parse_first
+pub loop-d-init : goal.loop-d-init
+loop-d-init c = parse_first
 
-pub returns-then-d-lt48 : goal.returns-then-d-lt48
-returns-then-d-lt48 c = parse_low c.loop-i.invariant c.loop-i-test.true c.if-d-lt48.true
-
-pub returns-then-d-gt57 : goal.returns-then-d-gt57
-returns-then-d-gt57 c = parse_high c.loop-i.invariant c.loop-i-test.true c.if-d-lt48.false c.if-d-gt57.true
+pub returns-then-not-is_ascii_digit : goal.returns-then-not-is_ascii_digit
+returns-then-not-is_ascii_digit c = parse_stop c.loop-d.invariant c.loop-d-test.true (sym c.is_ascii_digit.ensures.value ∙ c.if-not-is_ascii_digit.true)
 
 pub overflow_mul-n : goal.overflow_mul-n
-overflow_mul-n c = omega (arith, parse_room c.loop-i.invariant c.loop-i-test.true c.requires)
+overflow_mul-n c = omega (arith, parse_room c.loop-d.invariant c.loop-d-test.true c.requires)
 
 pub overflow_add-n : goal.overflow_add-n
-overflow_add-n c = omega (arith, parse_room c.loop-i.invariant c.loop-i-test.true c.requires)
+overflow_add-n c = omega (arith, parse_room c.loop-d.invariant c.loop-d-test.true c.requires)
 
-pub loop-i-preserved : goal.loop-i-preserved
-loop-i-preserved c = parse_turn c.loop-i.invariant c.loop-i-test.true c.if-d-lt48.false c.if-d-gt57.false
+pub loop-d-preserved : goal.loop-d-preserved
+loop-d-preserved c = rw c.from.ensures (parse_turn c.loop-d.invariant c.loop-d-test.true (sym c.is_ascii_digit.ensures.value ∙ c.if-not-is_ascii_digit.false))
 
 pub returns : goal.returns
-returns c = parse_past c.loop-i.invariant c.loop-i-test.false
+returns c = parse_past c.loop-d.invariant c.loop-d-test.false

@@ -1,11 +1,6 @@
--- `parse`: the number that the digits write. The digits from i on, read after n, decide; n has at most i places.
-use Prim.Native.Nat.{◌-◌}
-use lib.ListN.{length}
+-- `parse`: the number that the digits write. The digits from the index on, read after n, decide; n has at most as many places as were read.
 use Rattle.duration.proofs.Numbers.{Parse}
 use Rattle.duration.proofs.parse.Given as goal
 
-abbrev pub invariant-loop-i : goal.invariant-loop-i
-invariant-loop-i l = Parse l.digits l.n l.i
-
-abbrev pub decreases-loop-i : goal.decreases-loop-i
-decreases-loop-i l = length l.digits - l.i
+abbrev pub invariant-loop-d : goal.invariant-loop-d
+invariant-loop-d l = Parse l.digits l.n l.d-index

@@ -6,7 +6,7 @@ use Rattle.items.specs.declared.Item.TheVariants.{Digits, Letters, Blank, Mark}
 use Rattle.items.proofs.RunLaws.{next_at}
 use Rattle.items.proofs.NextLaws.{end_on, next_digits, next_letters, next_blank, next_mark}
 use Rattle.token.specs.Token.{begun}
-use Rattle.token.specs.declared.pitches.Sound.TheVariants.{Silence}
+use Rattle.std.specs.Prelude.{None}
 use Rattle.lists.specs.Lists.{sound_bytes}
 use Rattle.lists.proofs.FillLaws.{fill_as, fill_length, fill_room, fill_turn, fill_past, write_first, write_room, write_on, write_turn, write_left}
 use Rattle.lists.proofs.ItemLaws.{heard_none}
@@ -15,7 +15,7 @@ use Rattle.lists.proofs.UnknownLaws.{unknowns_past}
 use Rattle.lists.proofs.fill_pitches.Goals as goal
 
 pub loop-i-init : goal.loop-i-init
-loop-i-init c = write_first (heard_bytes Silence) (note_bytes_lem _ c.requires.0) c.requires.1
+loop-i-init c = write_first (heard_bytes None) (note_bytes_lem _ c.requires.0) c.requires.1
 
 pub digits_end-i-requires : goal.digits_end-i-requires
 digits_end-i-requires c = (c.loop-i-test.true, sym c.is_digit.ensures ∙ c.if-is_digit.true)
@@ -39,7 +39,7 @@ pub loop-i-preserved-then-is_letter : goal.loop-i-preserved-then-is_letter
 loop-i-preserved-then-is_letter c = write_on c.loop-i.invariant _ (next_at c.loop-i-test.true (next_letters _ _ c.loop-i-test.true c.letter_end-end.ensures c.is_digit.ensures c.if-is_digit.false c.is_letter.ensures c.if-is_letter.true)) (heard_next c.loop-i.sound (Letters _ _) (c.begin-sound.ensures ∙ ap (begun c.loop-i.sound) c.pitch_of.ensures))
 
 pub put_sound-k-requires : goal.put_sound-k-requires
-put_sound-k-requires c = write_room c.loop-i.invariant (sound_bytes c.loop-i.sound) (heard_bytes Silence) (next_at c.loop-i-test.true (next_blank _ _ c.loop-i-test.true c.is_digit.ensures c.if-is_digit.false c.is_letter.ensures c.if-is_letter.false c.if-b-eq32.true)) (heard_next c.loop-i.sound Blank refl)
+put_sound-k-requires c = write_room c.loop-i.invariant (sound_bytes c.loop-i.sound) (heard_bytes None) (next_at c.loop-i-test.true (next_blank _ _ c.loop-i-test.true c.is_digit.ensures c.if-is_digit.false c.is_letter.ensures c.if-is_letter.false c.if-b-eq32.true)) (heard_next c.loop-i.sound Blank refl)
 
 pub overflow_add-i : goal.overflow_add-i
 overflow_add-i c = omega (arith, c.loop-i-test.true)
@@ -48,7 +48,7 @@ pub loop-i-smaller-then-b-eq32 : goal.loop-i-smaller-then-b-eq32
 loop-i-smaller-then-b-eq32 c = omega (arith, c.loop-i-test.true)
 
 pub loop-i-preserved-then-b-eq32 : goal.loop-i-preserved-then-b-eq32
-loop-i-preserved-then-b-eq32 c = write_turn c.loop-i.invariant (sound_bytes c.loop-i.sound) (heard_bytes Silence) (next_at c.loop-i-test.true (next_blank _ _ c.loop-i-test.true c.is_digit.ensures c.if-is_digit.false c.is_letter.ensures c.if-is_letter.false c.if-b-eq32.true)) (heard_next c.loop-i.sound Blank refl) c.put_sound-k.ensures.0 c.put_sound-k.ensures.1
+loop-i-preserved-then-b-eq32 c = write_turn c.loop-i.invariant (sound_bytes c.loop-i.sound) (heard_bytes None) (next_at c.loop-i-test.true (next_blank _ _ c.loop-i-test.true c.is_digit.ensures c.if-is_digit.false c.is_letter.ensures c.if-is_letter.false c.if-b-eq32.true)) (heard_next c.loop-i.sound Blank refl) c.put_sound-k.ensures.0 c.put_sound-k.ensures.1
 
 pub unknown_end-i-requires : goal.unknown_end-i-requires
 unknown_end-i-requires c = (c.loop-i-test.true, sym c.is_unknown.ensures ∙ c.if-is_unknown.true)
