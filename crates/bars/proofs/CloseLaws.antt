@@ -1,4 +1,5 @@
 -- A closing, or a left barline kept, as the reading has it.
+use Rattle.std.specs.Prelude.{Ok}
 use mathlib.Core.Path.{◌≡◌, refl, sym, ap, ap₂, ◌∙◌}
 use Prim.Native.Nat.{ℕ, ◌+◌}
 use mathlib.Core.Bool.{Bool, true, false, cond}
@@ -17,7 +18,6 @@ use Rattle.reading.specs.Bars.{any_noted, closing, closed_bar, closed_part, left
 use Rattle.state.specs.Parts.{parts_of}
 use Rattle.state.specs.Lay.{laid, behind}
 use Rattle.state.specs.View.{Landed, going, state_of, landed, told}
-use Rattle.state.specs.declared.Step.TheVariants.{Goes}
 use Rattle.state.specs.declared.Tally.{Tally}
 use Rattle.bars.specs.Bars.{filled_bars, deciding_of, with_first, renewed, bar_record, tallied}
 use Rattle.bars.proofs.DecidingLaws.{deciding_line}
@@ -47,7 +47,7 @@ module _ (cells parts parts' out out' : List ℕ) (t : Tally) (right left : ℕ)
       → parts_of t.parts parts' ≡ map (closed_part right left (t.bars + 1)) (parts_of t.parts parts)
       → out' ≡ laid out t.at (map (bar_record right (t.bars + 1)) (parts_of t.parts parts))
       → k ≡ behind t.at (map (bar_record right (t.bars + 1)) (parts_of t.parts parts))
-      → told (Goes (tallied t (t.bars + 1) k)) cells parts' out' ≡ landed (goes (close_with right left before)) out t.at
+      → told (Ok (tallied t (t.bars + 1) k)) cells parts' out' ≡ landed (goes (close_with right left before)) out t.at
   unfolding closing outcome
   close_told k e p o b =
       ap (λ (ps : List Part). going (with_bars (with_parts before ps) (t.bars + 1)) k out') p
@@ -55,7 +55,7 @@ module _ (cells parts parts' out out' : List ℕ) (t : Tally) (right left : ℕ)
       ∙ outcome_is true e
 
   pub same_told : false ≡ any_noted (parts_of t.parts parts) → left ≡ 0
-      → told (Goes t) cells parts out ≡ landed (goes (close_with right left before)) out t.at
+      → told (Ok t) cells parts out ≡ landed (goes (close_with right left before)) out t.at
   unfolding keep_left laid behind outcome
   same_told e z =
       ap (λ (b : Bool). going (cond b before (with_parts before (map (left_anew left) (parts_of t.parts parts)))) t.at out) (sym (eq-eqb left 0 z))
@@ -63,7 +63,7 @@ module _ (cells parts parts' out out' : List ℕ) (t : Tally) (right left : ℕ)
 
   pub left_told : false ≡ any_noted (parts_of t.parts parts) → (left ≡ 0 → ⊥)
       → parts_of t.parts parts' ≡ map (left_anew left) (parts_of t.parts parts)
-      → told (Goes t) cells parts' out ≡ landed (goes (close_with right left before)) out t.at
+      → told (Ok t) cells parts' out ≡ landed (goes (close_with right left before)) out t.at
   unfolding keep_left laid behind outcome
   left_told e z p =
       ap (λ (ps : List Part). going (with_parts before ps) t.at out) p

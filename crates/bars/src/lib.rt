@@ -14,7 +14,6 @@ ghost use Rattle.state.specs.Parts.{part_of, parts_of};
 ghost use Rattle.state.specs.Lay.{laid, behind};
 ghost use Rattle.state.specs.View.{state_of, landed, told};
 ghost use Rattle.state.specs.Ready.{Ready};
-ghost use Rattle.state.specs.declared.Step.TheVariants.{Goes};
 ghost use Rattle.bars.specs.Bars.{filled_bars, deciding_of, with_first, renewed, bar_record, tallied, last_parts, last_bars, end_with, last_end};
 
 use sheet::{Bar, End, Part, Span};
@@ -232,7 +231,7 @@ fn tallied(tally: Tally, bars: u32, at: usize) -> Tally
 // Closes a bar in every part if any has a note, and else keeps a left barline.
 fn close_with(parts: &mut [u32], tally: Tally, right: u8, left: u8, out: &mut [u8]) -> Tally
     requires { (length parts.old ≡ 8960) × ((tally.parts ≤ 256) × (tally.bars ≤ 100000)) }
-    ensures { (cells : List ℕ) → told (Goes result) cells parts.new out.new ≡ landed (goes (close_with right left (state_of cells parts.old tally))) out.old tally.at }
+    ensures { (cells : List ℕ) → told (Ok result) cells parts.new out.new ≡ landed (goes (close_with right left (state_of cells parts.old tally))) out.old tally.at }
 {
     let count = tally.parts;
     let at = tally.at;
@@ -251,7 +250,7 @@ fn close_with(parts: &mut [u32], tally: Tally, right: u8, left: u8, out: &mut [u
 // A barline record: its first kern spine's token decides, else its first.
 pub fn read_bar(line: &[u8], row: &[u16], parts: &mut [u32], tally: Tally, out: &mut [u8]) -> Tally
     requires { Ready row.now parts.old tally }
-    ensures { (offset : ℕ) → told (Goes result) row.now parts.new out.new ≡ landed (goes (read_bar (placed offset (filled_bars (length row.now) (tokens_of line.now))) (state_of row.now parts.old tally))) out.old tally.at }
+    ensures { (offset : ℕ) → told (Ok result) row.now parts.new out.new ≡ landed (goes (read_bar (placed offset (filled_bars (length row.now) (tokens_of line.now))) (state_of row.now parts.old tally))) out.old tally.at }
 {
     let place = deciding(line, row);
     let token = slices::piece(line, place.0, place.1);

@@ -22,15 +22,16 @@ use Rattle.reading.specs.Notices.{placed, quiet}
 use Rattle.reading.specs.Bars.{is_kern_spine}
 use Rattle.reading.specs.Notes as notes
 use Rattle.state.specs.declared.Tally.{Tally}
-use Rattle.state.specs.declared.Step.{Step as StepTold}
-use Rattle.state.specs.declared.Step.TheVariants.{Refused, Goes, Ends}
+use Rattle.refusal.specs.Numbers.{number_of, line_of, figure_of}
+use Rattle.refusal.specs.declared.Refusal.{Refusal}
+use Rattle.std.specs.Prelude.{Ok, Err, Result}
 use Rattle.state.specs.Lay.{laid, behind}
 use Rattle.state.specs.View.{Landed, state_of, stopped, going, ending, landed, told}
 use Rattle.state.specs.Ready.{Ready}
 use Rattle.state.proofs.ViewLaws.{landed_behind}
 use Rattle.notes.specs.Spot.{Kept}
 use Rattle.data.specs.Column.{column_step, rest}
-use Rattle.notes.proofs.TokenLaws.{quiet_step, kept_same}
+use Rattle.notes.proofs.TokenLaws.{quiet_step}
 use Rattle.reading.proofs.StateLaws.{placed_bytes}
 
 -- ---- a step and what comes after it, by what the code says of the step
@@ -49,12 +50,6 @@ then_stops : (s : Step) (g : State → Step) (out : List ℕ) (at n l f : ℕ) �
 then_stops (refused m k h) g out at n l f e = sym e
 then_stops (goes r) g out at n l f e = clash cc
 then_stops (ends r) g out at n l f e = clash cc
-
-then_ends : (s : Step) (g : State → Step) (out new : List ℕ) (at place : ℕ) (st : State) → ending st place new ≡ landed s out at
-    → landed (notes.and_then s g) out at ≡ ending st place new
-then_ends (refused n l f) g out new at place st e = clash cc
-then_ends (goes r) g out new at place st e = clash cc
-then_ends (ends r) g out new at place st e = sym e
 
 -- ---- what is left from column i on
 no_tokens : (all : List (List ℕ)) (kern : List Bool) (k i : ℕ) (row : List Spine) (st : State) → notes.read_tokens all kern k i row [] st ≡ goes (quiet st)
@@ -166,18 +161,18 @@ module _ {whole : Landed} {line row parts₀ out₀ : List ℕ} {t₀ : Tally} {
       ∙ ap (λ (s : Step). landed s out t.at) (sym (rest_done line row k offset from i (state_of row parts t) h))
       ∙ sym inv.same
 
-  module _ {e : ℕ} (parts' out' : List ℕ) (r : StepTold) (h : i < length row) (p : Piece 9 line from e)
+  module _ {e : ℕ} (parts' out' : List ℕ) (r : Result Tally Refusal) (h : i < length row) (p : Piece 9 line from e)
       (tells : told r row parts' out' ≡ landed (column_step line row (record { index = i; from = from; end = e; line = k; offset = offset }) (state_of row parts t)) out t.at)
       (keeps : Kept t r) where
     here : whole ≡ landed (notes.and_then (column_step line row (record { index = i; from = from; end = e; line = k; offset = offset }) (state_of row parts t)) (rest line row k offset (e + 1) (i + 1))) out t.at
     here = inv.same ∙ ap (λ (s : Step). landed s out t.at) (rest_more line row k offset from i e (state_of row parts t) h p)
 
-    pub data_turn : {u : Tally} → r ≡ Goes u → length parts' ≡ length parts → length out' ≡ length out
+    pub data_turn : {u : Tally} → r ≡ Ok u → length parts' ≡ length parts → length out' ≡ length out
         → Reading whole line row parts₀ out₀ t₀ k offset parts' out' u (e + 1) (i + 1)
     data_turn {u} q lp lo =
         let tells' : going (state_of row parts' u) u.at out' ≡ landed (column_step line row (record { index = i; from = from; end = e; line = k; offset = offset }) (state_of row parts t)) out t.at
-        = ap (λ (s : StepTold). told s row parts' out') (sym q) ∙ tells in
-        let keeps' : Kept t (Goes u) = rw q at keeps in
+        = ap (λ (s : Result Tally Refusal). told s row parts' out') (sym q) ∙ tells in
+        let keeps' : Kept t (Ok u) = rw q at keeps in
         record {
           high = omega arith;
           long = lp ∙ inv.long;
@@ -188,21 +183,10 @@ module _ {whole : Landed} {line row parts₀ out₀ : List ℕ} {t₀ : Tally} {
               ∙ then_goes (column_step line row (record { index = i; from = from; end = e; line = k; offset = offset }) (state_of row parts t)) (rest line row k offset (e + 1) (i + 1)) out out' t.at u.at (state_of row parts' u) tells';
         }
 
-    pub data_stops : {n l f : ℕ} → r ≡ Refused n l f
+    pub data_stops : {n : Refusal} → r ≡ Err n
         → told r row parts' out' ≡ whole
-    data_stops {n} {l} {f} q =
-        let back : told r row parts' out' ≡ stopped n l f = ap (λ (s : StepTold). told s row parts' out') q in
+    data_stops {n} q =
+        let back : told r row parts' out' ≡ stopped (number_of n) (line_of n) (figure_of n) = ap (λ (s : Result Tally Refusal). told s row parts' out') q in
         back
         ∙ sym (here
-        ∙ then_stops (column_step line row (record { index = i; from = from; end = e; line = k; offset = offset }) (state_of row parts t)) (rest line row k offset (e + 1) (i + 1)) out t.at n l f (sym back ∙ tells))
-
-    pub data_ends : {u : Tally} → r ≡ Ends u
-        → told r row parts' out' ≡ whole
-    data_ends {u} q =
-        let back : told r row parts' out' ≡ ending (state_of row parts' u) u.at out' = ap (λ (s : StepTold). told s row parts' out') q in
-        back
-        ∙ sym (here
-        ∙ then_ends (column_step line row (record { index = i; from = from; end = e; line = k; offset = offset }) (state_of row parts t)) (rest line row k offset (e + 1) (i + 1)) out out' t.at u.at (state_of row parts' u) (sym back ∙ tells))
-
-    pub data_kept : Kept t₀ r
-    data_kept = kept_same inv.kept r keeps
+        ∙ then_stops (column_step line row (record { index = i; from = from; end = e; line = k; offset = offset }) (state_of row parts t)) (rest line row k offset (e + 1) (i + 1)) out t.at (number_of n) (line_of n) (figure_of n) (sym back ∙ tells))

@@ -1,4 +1,5 @@
 -- The columns of a stretch, one after the other.
+use Rattle.std.specs.Prelude.{Ok}
 use mathlib.Core.Path.{◌≡◌, refl, sym, ap, subst, ◌∙◌}
 use Prim.Native.Nat.{ℕ, ◌+◌, ◌-◌, ◌%◌, ◌^◌, ◌≤◌, ◌<◌}
 use native.Mathlib.Omega.{arith}
@@ -15,7 +16,6 @@ use Rattle.plain.specs.declared.Plain.{Plain}
 use Rattle.plain.specs.declared.Shape.{Shape}
 use Rattle.plain.specs.declared.Shape.TheVariants.{Null, Note}
 use Rattle.state.specs.declared.Tally.{Tally}
-use Rattle.state.specs.declared.Step.TheVariants.{Goes}
 use Rattle.state.specs.Ready.{Ready}
 use Rattle.state.specs.View.{Landed, state_of, landed}
 use Rattle.notes.specs.declared.Spot.{Spot}
@@ -48,13 +48,13 @@ module _ {whole : Landed} {line row parts₀ out₀ : List ℕ} {t₀ : Tally} {
   pub outside_turn : {e : ℕ} → get_or row i 0 < 8 → e ≡ piece_end 9 line from
       → Reading whole line row parts₀ out₀ t₀ k offset parts out (counts_at t₀ n at) (e + 1) (i + 1)
   outside_turn {e} o q =
-      data_turn inv parts out (Goes (counts_at t₀ n at)) h (piece_at_lem low q) (column_outside line row (column e) (state_of row parts (counts_at t₀ n at)) out at o) (same (counts_at t₀ n at)) refl refl refl
+      data_turn inv parts out (Ok (counts_at t₀ n at)) h (piece_at_lem low q) (column_outside line row (column e) (state_of row parts (counts_at t₀ n at)) out at o) (same (counts_at t₀ n at)) refl refl refl
 
   pub null_turn : {e : ℕ} {s : Shape} → ShapeAt line from s → s ≡ Null e
       → Reading whole line row parts₀ out₀ t₀ k offset parts out (counts_at t₀ n at) (e + 1) (i + 1)
   null_turn {e} {s} shape q =
       let z : e ≡ piece_end 9 line from = null_end line from s shape q in
-      data_turn inv parts out (Goes (counts_at t₀ n at)) h (piece_at_lem low z)
+      data_turn inv parts out (Ok (counts_at t₀ n at)) h (piece_at_lem low z)
       (column_null line row (column e) (state_of row parts (counts_at t₀ n at)) out at (null_column line (column e) s shape z q)) (same (counts_at t₀ n at)) refl refl refl
 
   -- the spot of a note, whose offset no NOTE has
@@ -74,7 +74,7 @@ module _ {whole : Landed} {line row parts₀ out₀ : List ℕ} {t₀ : Tally} {
       let plain : PlainToken token p = note_column line c s shape z q in
       let t : Tally = counts_at t₀ n at in
       let added = note_added row parts parts' token p.note (spot_of row c) {t = t} {u = t} {w = counts_at t₀ (n + 1) place} once.few (inferred_no token (spot_of row c) t out plain.sure) (sym plain.letters) written.sounds refl refl written.lays written.ends refl in
-      data_turn inv parts' out' (Goes (counts_at t₀ (n + 1) place)) h (piece_at_lem low z)
+      data_turn inv parts' out' (Ok (counts_at t₀ (n + 1) place)) h (piece_at_lem low z)
       (column_line line row c (state_of row parts t) out at kern once.line refl refl (plain_step row parts token _ (spot_of row c) t out plain once.full added))
       (record { active = refl; parts = refl; bars = refl }) refl lp lo
 

@@ -17,7 +17,8 @@ ghost use Rattle.data.specs.Stretch.{AtOnce, with_stretch, Stretched};
 use duration::Value;
 use notes::Spot;
 use plain::Shape;
-use state::{Step, Tally};
+use refusal::Refusal;
+use state::Tally;
 
 // The spot of a kern line's cell, in a column from 0.
 fn spot_at(cell: u16, index: usize, line: u32, at: u32) -> Spot
@@ -96,7 +97,7 @@ fn read_column(
     parts: &mut [u32],
     tally: Tally,
     out: &mut [u8],
-) -> Step
+) -> Result<Tally, Refusal>
     requires { Ready row.now parts.old tally × ((column.offset + length line.now < 2 ^ 27) × Entered line.now row.now column asked) }
     ensures { (told result row.now parts.new out.new ≡ landed (column_step line.now row.now column (state_of row.now parts.old tally)) out.old tally.at) × Kept tally result }
 {
@@ -105,10 +106,10 @@ fn read_column(
     let end = column.end;
     let cell = row[i];
     if cell < 8 {
-        return Step::Goes(tally);
+        return Ok(tally);
     }
     if 3 < cell % 8 {
-        return Step::Goes(tally);
+        return Ok(tally);
     }
     let token = &line[from..end];
     let inferred = infer(asked, token);
@@ -222,7 +223,7 @@ pub fn read_data(
     number: u32,
     offset: u32,
     out: &mut [u8],
-) -> Step
+) -> Result<Tally, Refusal>
     requires { Ready row.now parts.old tally × ((offset + length line.now < 2 ^ 27) × (number < 2 ^ 27)) }
     ensures { (told result row.now parts.new out.new ≡ landed (read_data number (placed offset (take (length row.now) (tokens_of line.now))) (state_of row.now parts.old tally)) out.old tally.at) × Kept tally result }
 {
@@ -233,7 +234,7 @@ pub fn read_data(
         let i = s.index;
         let from = s.from;
         if line.len() < from {
-            return Step::Goes(t);
+            return Ok(t);
         }
         let end = lines::token_end(line, from);
         let column = Column {
@@ -244,23 +245,9 @@ pub fn read_data(
             offset,
         };
         asked = ask(line, row, asked, from, end);
-        let step = read_column(line, row, column, asked, parts, t, out);
-        match step {
-            Step::Refused {
-                number: _,
-                line: _,
-                figure: _,
-            } => {
-                return step;
-            }
-            Step::Ends(_) => {
-                return step;
-            }
-            Step::Goes(u) => {
-                s = read_stretch(line, row, parts, u, number, end + 1, i + 1, out);
-                t = with_stretch(u, s);
-            }
-        }
+        let u = read_column(line, row, column, asked, parts, t, out)?;
+        s = read_stretch(line, row, parts, u, number, end + 1, i + 1, out);
+        t = with_stretch(u, s);
     }
-    Step::Goes(t)
+    Ok(t)
 }

@@ -1,4 +1,5 @@
 -- A reference record and a header line, as they land.
+use Rattle.std.specs.Prelude.{Ok}
 use mathlib.Core.Path.{◌≡◌, refl, sym, ap, ap₂, ◌∙◌}
 use Prim.Native.Nat.{ℕ, ◌+◌, ◌≤◌, ◌<◌, ◌^◌}
 use native.Mathlib.Omega.{arith}
@@ -26,7 +27,6 @@ use Rattle.state.specs.Lay.{laid, behind}
 use Rattle.state.specs.Parts.{parts_of}
 use Rattle.state.specs.View.{state_of, Landed, stopped, going, landed, told}
 use Rattle.state.specs.declared.Tally.{Tally}
-use Rattle.state.specs.declared.Step.TheVariants.{Goes}
 use Rattle.writing.specs.Kept.{kept_records, after_kept}
 use Rattle.writing.proofs.KeptLaws.{kept_told}
 use Rattle.header.proofs.ColumnLaws.{any_none, any_some}
@@ -72,9 +72,9 @@ module _ (s t : List ℕ) (r : Reference) (k offset : ℕ) (u : Tally) (cut : t 
 
     pub other_key_told : (name : Span) → name ≡ span_of (offset + 3 + r.key_at) r.key_len → r.key ≡ Other → (v : Tally) (last : List ℕ)
         → (last ≡ laid out u.at (kept_records u (record { number = 1; column = 0; line = k; value = value; key = name }) []))
-        × (v ≡ after_kept u (record { number = 1; column = 0; line = k; value = value; key = name }) []) → told (Goes v) cells parts last ≡ result
+        × (v ≡ after_kept u (record { number = 1; column = 0; line = k; value = value; key = name }) []) → told (Ok v) cells parts last ≡ result
     other_key_told name n e v last w =
-        ap₂ (λ (x : Tally) (y : List ℕ). told (Goes x) cells parts y) w.1 w.0
+        ap₂ (λ (x : Tally) (y : List ℕ). told (Ok x) cells parts y) w.1 w.0
         ∙ kept_told cells parts u (record { number = 1; column = 0; line = k; value = value; key = name }) [] out
         ∙ ap (λ (y : Span). landed (goes (keep (record { number = 1; column = 0; line = k; value = value; key = y }) [] (state_of cells parts u))) out u.at) n
         ∙ ap (λ (q : Result). landed (goes q) out u.at) (sym (by_key_lem Other e (state_of cells parts u)))
@@ -121,7 +121,7 @@ module _ (s : List ℕ) (k offset : ℕ) (t : Tally) (row parts : List ℕ) (out
     (some-kern : m ≡ 0 → ⊥)
     (fresh : (ks : List Bool) → m ≡ length (fresh_parts 0 ks) → parts_of m parts ≡ fresh_parts 0 ks) where
   pub header_told : (r : Tally) (last : List ℕ)
-      → Same (begun t n m) r × ((cells parts : List ℕ) → told (Goes r) cells parts last ≡ landed (goes (notice_others k 1 (placed offset (tokens_of s)) (state_of cells parts (begun t n m)))) out t.at)
+      → Same (begun t n m) r × ((cells parts : List ℕ) → told (Ok r) cells parts last ≡ landed (goes (notice_others k 1 (placed offset (tokens_of s)) (state_of cells parts (begun t n m)))) out t.at)
       → (cells old : List ℕ) → going (state_of (take r.active row) parts r) r.at last ≡ landed (read_header k offset s (state_of cells old t)) out t.at
   header_told r last w cells old =
       let x : take r.active row ≡ take (length (tokens_of s)) row = ap (λ (i : ℕ). take i row) (w.0.active ∙ e) in

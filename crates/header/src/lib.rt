@@ -12,19 +12,19 @@ ghost use Rattle.reading.specs.Notices.{placed};
 ghost use Rattle.reading.specs.Header.{read_reference, notice_others, fresh_parts, read_header};
 ghost use Rattle.state.specs.Parts.{part_of, parts_of};
 ghost use Rattle.state.specs.View.{state_of, landed, told, told_row};
-ghost use Rattle.state.specs.declared.Step.TheVariants.{Goes};
 ghost use Rattle.header.specs.Columns.{notice_other, HeaderTable};
 ghost use Rattle.state.specs.Counts.{Same};
 
 use reference::Key;
+use refusal::Refusal;
 use sheet::{Notice, Span};
 use spines::Active;
-use state::{Step, Tally};
+use state::Tally;
 
 // A reference record: `!!!OTL`, `!!!COM` and `!!!LYR` set title, composer and lyricist; any other key gives notice 1.
 pub fn read_reference(line: &[u8], number: u32, offset: u32, tally: Tally, out: &mut [u8]) -> Tally
     requires { offset + length line.now < 2 ^ 27 }
-    ensures { (cells parts : List ℕ) → told (Goes result) cells parts out.new ≡ landed (goes (read_reference number offset line.now (state_of cells parts tally))) out.old tally.at }
+    ensures { (cells parts : List ℕ) → told (Ok result) cells parts out.new ≡ landed (goes (read_reference number offset line.now (state_of cells parts tally))) out.old tally.at }
 {
     let r = reference::reference_of(interpretation::tail(line, 3));
     let from = offset + 3;
@@ -211,7 +211,7 @@ fn notice_other(
     out: &mut [u8],
 ) -> Tally
     requires { length token.now < 2 ^ 32 }
-    ensures { (Same tally result) × ((cells parts : List ℕ) → told (Goes result) cells parts out.new ≡ landed (goes (notice_other number column at token.now (state_of cells parts tally))) out.old tally.at) }
+    ensures { (Same tally result) × ((cells parts : List ℕ) → told (Ok result) cells parts out.new ≡ landed (goes (notice_other number column at token.now (state_of cells parts tally))) out.old tally.at) }
 {
     if lines::is_kern(token) {
         return tally;
@@ -232,7 +232,7 @@ fn notice_other(
 // Notice 2 for each of them.
 fn notice_others(line: &[u8], number: u32, offset: u32, tally: Tally, out: &mut [u8]) -> Tally
     requires { (offset + length line.now < 2 ^ 27) × (length (tokens_of line.now) ≤ 256) }
-    ensures { (Same tally result) × ((cells parts : List ℕ) → told (Goes result) cells parts out.new ≡ landed (goes (notice_others number 1 (placed offset (tokens_of line.now)) (state_of cells parts tally))) out.old tally.at) }
+    ensures { (Same tally result) × ((cells parts : List ℕ) → told (Ok result) cells parts out.new ≡ landed (goes (notice_others number 1 (placed offset (tokens_of line.now)) (state_of cells parts tally))) out.old tally.at) }
 {
     let mut t = tally;
     let mut from = 0;
@@ -262,7 +262,7 @@ pub fn read_header(
     number: u32,
     offset: u32,
     out: &mut [u8],
-) -> Step
+) -> Result<Tally, Refusal>
     requires { (length row.old ≡ 512) × ((length parts.old ≡ 8960) × (offset + length line.now < 2 ^ 27)) }
     ensures { (cells : List ℕ) → told_row result row.new parts.new out.new ≡ landed (read_header number offset line.now (state_of cells parts.old tally)) out.old tally.at }
 {
@@ -270,26 +270,17 @@ pub fn read_header(
     let count = lines::token_count(line);
     let other = !exclusive;
     if other {
-        return Step::Refused {
-            number: 3,
-            line: number as usize,
-            figure: 0,
-        };
+        return Err(Refusal::NotExclusive { line: number });
     }
     if 256 < count {
-        return Step::Refused {
-            number: 4,
-            line: number as usize,
-            figure: count,
-        };
+        return Err(Refusal::ManyColumns {
+            line: number,
+            columns: count,
+        });
     }
     let kerns = fill_row(line, row);
     if kerns == 0 {
-        return Step::Refused {
-            number: 5,
-            line: number as usize,
-            figure: 0,
-        };
+        return Err(Refusal::NoKern { line: number });
     }
     fresh_parts(parts, kerns);
     let begun = Tally {
@@ -298,5 +289,5 @@ pub fn read_header(
         ..tally
     };
     let told = notice_others(line, number, offset, begun, out);
-    Step::Goes(told)
+    Ok(told)
 }

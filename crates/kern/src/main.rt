@@ -2,13 +2,12 @@
 
 // Reads a text of Humdrum **kern from standard input, 32,768 bytes at most, and writes its sheet to standard output; or number, line
 // and figure of its refusal, or `long`.
-use reader::Answer;
 
 fn print(bytes: &[u8]) {
     io::write_all(1, bytes);
 }
 
-fn print_refusal(number: usize, line: usize, figure: usize) {
+fn print_refusal(number: u32, line: u32, figure: usize) {
     io::print_decimal(1, number as u64);
     print(b" ");
     io::print_decimal(1, line as u64);
@@ -19,14 +18,10 @@ fn print_refusal(number: usize, line: usize, figure: usize) {
 
 fn answer(text: &[u8], out: &mut [u8]) {
     match reader::read(text, out) {
-        Answer::Refused {
-            number,
-            line,
-            figure,
-        } => {
-            print_refusal(number, line, figure);
+        Err(refusal) => {
+            print_refusal(refusal.number(), refusal.line(), refusal.figure());
         }
-        Answer::Accepted(long) => {
+        Ok(long) => {
             print(slices::piece(out, 0, long));
         }
     }

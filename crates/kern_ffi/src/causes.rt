@@ -10,7 +10,6 @@ ghost use Rattle.demand.specs.Played.{Played};
 ghost use Rattle.kern_ffi.specs.Answer.{number_of, figure_of, three_of, entry_numbers};
 
 use holders::Holders;
-use reader::Answer;
 
 // The entries of a list at the start of a lent array, three numbers each.
 fn put_lines(lines: &mut [u64], held: Holders)
@@ -50,21 +49,6 @@ pub extern "C" fn kern_read_lines(
     ensures lines { lines.new ≡ stored lines.old (entry_numbers (filling_of text.now)) }
 {
     let explained = staff::read_with_lines(text, out);
-    let held = explained.lines;
-    put_lines(lines, held);
-    let answered = explained.answer;
-    match answered {
-        Answer::Refused {
-            number,
-            line,
-            figure,
-        } => {
-            crate::put_three(answer, number as u64, line as u64, figure as u64);
-            number as u32
-        }
-        Answer::Accepted(long) => {
-            crate::put_three(answer, 0, 0, long as u64);
-            0
-        }
-    }
+    put_lines(lines, explained.lines);
+    crate::put_answer(answer, explained.answer)
 }

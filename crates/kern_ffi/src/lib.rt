@@ -4,26 +4,36 @@
 pub mod causes;
 pub mod rests;
 
-ghost use Rattle.std.specs.Prelude.{◌≡◌, [], ◌∷◌, ◌<◌, ◌^◌, length};
+ghost use Rattle.std.specs.Prelude.{◌≡◌, ◌<◌, ◌^◌, length};
 ghost use Rattle.slices.specs.Store.{stored};
 ghost use Rattle.reading.specs.Text.{answer_of, buffer_of};
 ghost use Rattle.account.specs.Joins.{OneOrigin};
 ghost use Rattle.account.specs.Reached.{Question8, Question17};
 ghost use Rattle.demand.specs.Played.{Played};
+ghost use Rattle.reader.specs.Answer.{numbers_of};
 ghost use Rattle.notice.specs.Table.{code_of, reason_of};
 ghost use Rattle.names.specs.Names.{fallback_names, name_of};
 ghost use Rattle.kern_ffi.specs.Answer.{number_of, figure_of, three_of, is_given};
 
-use reader::Answer;
+use refusal::Refusal;
 
-// Three numbers into a lent array.
-fn put_three(answer: &mut [u64], a: u64, b: u64, c: u64)
-    requires { length answer.old ≡ 3 }
-    ensures { answer.new ≡ a ∷ b ∷ c ∷ [] }
+// The answer's numbers in a lent array: number, line and figure of the refusal, or 0, 0 and the sheet's length. The number is returned.
+fn put_answer(answer: &mut [u64; 3], said: Result<usize, Refusal>) -> u32
+    ensures number { result ≡ number_of (numbers_of said) }
+    ensures answer { answer.new ≡ three_of (numbers_of said) }
 {
-    answer[0] = a;
-    answer[1] = b;
-    answer[2] = c;
+    match said {
+        Ok(length) => {
+            *answer = [0, 0, length as u64];
+            0
+        }
+        Err(refusal) => {
+            let number = refusal.number();
+            let line = refusal.line();
+            *answer = [u64::from(number), u64::from(line), refusal.figure() as u64];
+            number
+        }
+    }
 }
 
 // Reads a text into a lent buffer. The number of the refusal, or 0; `answer` is then number, line and figure of the refusal, or 0, 0 and
@@ -39,20 +49,8 @@ pub extern "C" fn kern_read(text: &[u8], out: &mut [u8], answer: &mut [u64; 3]) 
     ensures joined { Question17 text.now }
     ensures traced { OneOrigin text.now }
 {
-    match reader::read(text, out) {
-        Answer::Refused {
-            number,
-            line,
-            figure,
-        } => {
-            put_three(answer, number as u64, line as u64, figure as u64);
-            number as u32
-        }
-        Answer::Accepted(long) => {
-            put_three(answer, 0, 0, long as u64);
-            0
-        }
-    }
+    let said = reader::read(text, out);
+    put_answer(answer, said)
 }
 
 // The code of a notice, put at the start of a lent buffer where it fits; its length, 0 for a number that is no notice.

@@ -27,11 +27,11 @@ pub extern "C" fn kern_gap_rests(
             line,
             figure,
         } => {
-            crate::put_three(answer, number as u64, line as u64, figure as u64);
+            *answer = [number as u64, line as u64, figure as u64];
             number as u32
         }
         Answer::Accepted(long) => {
-            crate::put_three(answer, 0, 0, long as u64);
+            *answer = [0, 0, long as u64];
             0
         }
     }

@@ -2,7 +2,6 @@
 
 // Question 1: a text of 67,108,865 bytes, one more than are allowed, is refused before any of them is looked at. Number, line and figure, and
 // then the lent buffer, which is as it was.
-use reader::Answer;
 use std::alloc::{AllocError, Global};
 
 fn print(bytes: &[u8]) {
@@ -18,16 +17,12 @@ fn print_number(n: usize, behind: &[u8]) {
 fn ask(text: &[u8]) {
     let mut out = *b"unchanged";
     match reader::read(text, &mut out) {
-        Answer::Refused {
-            number,
-            line,
-            figure,
-        } => {
-            print_number(number, b" ");
-            print_number(line, b" ");
-            print_number(figure, b"\n");
+        Err(refusal) => {
+            print_number(refusal.number() as usize, b" ");
+            print_number(refusal.line() as usize, b" ");
+            print_number(refusal.figure(), b"\n");
         }
-        Answer::Accepted(long) => {
+        Ok(long) => {
             print_number(long, b"\n");
         }
     }

@@ -23,8 +23,8 @@ use Rattle.reading.specs.State.{Part, State, Result, goes, part_at, with_part, w
 use Rattle.reading.specs.Notices.{span_of_token, quiet, notify}
 use Rattle.reading.specs.Notes as notes
 use Rattle.state.specs.declared.Tally.{Tally}
-use Rattle.state.specs.declared.Step.{Step as StepTold}
-use Rattle.state.specs.declared.Step.TheVariants.{Refused, Goes, Ends}
+use Rattle.refusal.specs.declared.Refusal.{Refusal}
+use Rattle.std.specs.Prelude.{Ok, Err, Result as Answered}
 use Rattle.state.specs.Parts.{parts_of}
 use Rattle.state.specs.Lay.{laid, behind}
 use Rattle.state.specs.View.{state_of, Landed, stopped, going, landed}
@@ -113,10 +113,9 @@ module _ (cells parts parts' token : List ℕ) (n : Note) (s : Spot) {t u w : Ta
 pub note_same : {t u w : Tally} {at : ℕ} → Same t u → w ≡ with_note u at → Same t w
 note_same h e = rw e (record { active = h.active; parts = h.parts; bars = h.bars })
 
-pub kept_same : {t u : Tally} → Same t u → (r : StepTold) → Kept u r → Kept t r
-kept_same h (Refused n l f) k = tt
-kept_same h (Goes w) k = same_same h k
-kept_same h (Ends w) k = same_same h k
+pub kept_same : {t u : Tally} → Same t u → (r : Answered Tally Refusal) → Kept u r → Kept t r
+kept_same h (Ok w) k = same_same h k
+kept_same h (Err n) k = tt
 
 -- ---- the token
 -- nothing comes of it

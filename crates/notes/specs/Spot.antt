@@ -1,5 +1,5 @@
 -- A token of a kern line: where it stands, what it comes to, and what stays as it was.
-use Rattle.std.specs.Prelude.{◌≡◌, ℕ, ◌+◌, ◌-◌, ◌/◌, ◌%◌, ◌^◌, ◌≤◌, ◌<◌, Bool, cond, List, length, Option}
+use Rattle.std.specs.Prelude.{◌≡◌, ℕ, ◌+◌, ◌-◌, ◌/◌, ◌%◌, ◌^◌, ◌≤◌, ◌<◌, Bool, cond, List, length, Option, Result as Answered, Ok, Err}
 use Rattle.state.specs.Counts.{Same}
 use Rattle.lines.specs.Tokens.{is_null}
 use Rattle.duration.specs.declared.Value.{Value}
@@ -11,8 +11,7 @@ use Rattle.reading.specs.State.{State, Result, Step, goes}
 use Rattle.reading.specs.Notices.{Token, span_of_token, quiet, notify}
 use Rattle.reading.specs.Notes as notes
 use Rattle.state.specs.declared.Tally.{Tally}
-use Rattle.state.specs.declared.Step.{Step as StepTold}
-use Rattle.state.specs.declared.Step.TheVariants.{Refused, Goes, Ends}
+use Rattle.refusal.specs.declared.Refusal.{Refusal}
 use Rattle.state.specs.Lay.{laid, behind}
 use Rattle.state.specs.View.{state_of}
 use Rattle.notes.specs.declared.Spot.{Spot}
@@ -66,10 +65,9 @@ with_note t at = record {
 }
 
 -- spines, parts and bars are as many as before
-abbrev pub Kept : Tally → StepTold → Type 0
-Kept t (Refused n l f) = Unit {0}
-Kept t (Goes u) = Same t u
-Kept t (Ends u) = Same t u
+abbrev pub Kept : Tally → Answered Tally Refusal → Type 0
+Kept t (Ok u) = Same t u
+Kept t (Err r) = Unit {0}
 
 -- notices of a definition as the code leaves them: the counts were t and are u, the buffer was old and is new
 pub record Noticed (t u : Tally) (old new : List ℕ) (f : State → Result) : Type 0 where

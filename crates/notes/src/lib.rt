@@ -20,8 +20,9 @@ ghost use Rattle.notes.specs.Spot.{token_at, token_step, note_at, with_note, Kep
 use duration::Value;
 use notation::beam::Beam;
 use plain::Plain;
+use refusal::Refusal;
 use sheet::Span;
-use state::{Step, Tally};
+use state::Tally;
 use token::outcome::Note;
 use token::scan::Scan;
 
@@ -193,7 +194,7 @@ fn add_note(
     parts: &mut [u32],
     tally: Tally,
     out: &mut [u8],
-) -> Step
+) -> Result<Tally, Refusal>
     requires { Sited token.now parts.old spot tally × ((n.pitches ≡ length (note_pitches token.now)) × (n.articulations ≡ length (articulations_of (items token.now)))) }
     ensures { ((cells : List ℕ) → told result cells parts.new out.new ≡ landed (add_note spot.part spot.voice spot.line spot.column (token_at spot token.now) n (state_of cells parts.old tally)) out.old tally.at) × Kept tally result }
 {
@@ -211,13 +212,9 @@ fn add_note(
         );
         let note = note_at(n, spot, t.bars, beam);
         let at = writing::write_note(out, t.at, note, token, None);
-        return Step::Goes(with_note(t, at));
+        return Ok(with_note(t, at));
     }
-    Step::Refused {
-        number: 10,
-        line: spot.line as usize,
-        figure: 0,
-    }
+    Err(Refusal::ManyNotes { line: spot.line })
 }
 
 // The notices and the NOTE of a token of a kern line; `inferred` is the value that its peers give, None where they give none.
@@ -228,19 +225,19 @@ pub fn read_token(
     parts: &mut [u32],
     tally: Tally,
     out: &mut [u8],
-) -> Step
+) -> Result<Tally, Refusal>
     requires { Sited token.now parts.old spot tally }
     ensures { ((cells : List ℕ) → told result cells parts.new out.new ≡ landed (token_step token.now inferred spot (state_of cells parts.old tally)) out.old tally.at) × Kept tally result }
 {
     if lines::is_null(token) {
-        return Step::Goes(tally);
+        return Ok(tally);
     }
     let scan = scan::scan_token(token);
     let t = signify(token, scan, spot, tally, out);
     match scan::outcome::kern_token(scan, inferred) {
-        Ok(None) => Step::Goes(t),
+        Ok(None) => Ok(t),
         Ok(Some(n)) => add_note(token, n, spot, parts, t, out),
-        Err(why) => Step::Goes(notify_token(token, why.notice(), spot, t, out)),
+        Err(why) => Ok(notify_token(token, why.notice(), spot, t, out)),
     }
 }
 

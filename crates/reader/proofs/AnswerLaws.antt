@@ -25,17 +25,18 @@ use Rattle.account.proofs.Distinct.{one_origin}
 use Rattle.account.proofs.Question.{question_8, question_17}
 use Rattle.demand.specs.Played.{Played}
 use Rattle.demand.proofs.PlayedLaws.{played}
-use Rattle.demand.proofs.NumberLaws.{refusal_number, refusal_not_13}
+use Rattle.demand.proofs.NumberLaws.{refusal_not_13}
 use Rattle.extent.specs.Extent.{Extent}
 use Rattle.extent.proofs.TextLaws.{extent}
 use Rattle.reader.specs.Landing.{refused, written, finished, lines_at}
 use Rattle.reader.specs.Measured.{Measured}
 use Rattle.reader.specs.Told.{finished_by, Tells}
 use Rattle.reader.specs.Answer.{numbers_of}
-use Rattle.reader.specs.declared.Answer.{Answer as Answered}
-use Rattle.reader.specs.declared.Answer.TheVariants.{Refused as RefusedWith, Accepted}
-use Rattle.reader.specs.declared.Finish.{Finish}
-use Rattle.reader.specs.declared.Finish.TheVariants.{Refused, Written}
+use Rattle.std.specs.Prelude.{Result, Ok, Err}
+use Rattle.refusal.specs.Numbers.{number_of, line_of, figure_of}
+use Rattle.refusal.specs.declared.Refusal.{Refusal}
+use Rattle.refusal.specs.declared.Refusal.TheVariants.{ShortBuffer}
+use Rattle.reader.specs.declared.Written.{Written}
 use Rattle.reader.proofs.LandingLaws.{lines_at_lem}
 
 -- ---- questions 1 and 2
@@ -110,12 +111,12 @@ answers_sheet {text} {parts} {notes} {at} old m h =
 
 -- what the second reading leaves of the bytes from 16 on
 pub body_laid : {text : List ℕ} {parts notes at : ℕ} (out rest : List ℕ) (m : Measured text parts notes at) → at ≤ length out
-    → (f : Finish) → finished_by f rest ≡ finished (read_text text) out → rest ≡ records_bytes m.records ++ drop at out
-body_laid out rest m h (Refused n l g) e =
-    let f : refused n l g ≡ finished (accepted _ _ m.records) out = rw m.is at e in
+    → (f : Result Written Refusal) → finished_by f rest ≡ finished (read_text text) out → rest ≡ records_bytes m.records ++ drop at out
+body_laid out rest m h (Err r) e =
+    let f : refused (number_of r) (line_of r) (figure_of r) ≡ finished (accepted _ _ m.records) out = rw m.is at e in
     clash cc
-body_laid {at = at} out rest m h (Written p n k) e =
-    let f : written p n k rest ≡ finished (accepted _ _ m.records) out = rw m.is at e in
+body_laid {at = at} out rest m h (Ok v) e =
+    let f : written v.parts v.notes v.at rest ≡ finished (accepted _ _ m.records) out = rw m.is at e in
     let r : rest ≡ laid out 0 m.records = cc in
     let z : 0 + length (records_bytes m.records) ≡ at = zero-add (length (records_bytes m.records)) ∙ sym m.size in
     let b : 0 + length (records_bytes m.records) ≤ length out = omega arith in
@@ -153,9 +154,9 @@ sheet_stored {text} {parts} {notes} {at} old body m h e =
     ∙ sym whole
 
 -- what the first reading says
-pub tells : (text out rest : List ℕ) (f : Finish) → finished_by f rest ≡ finished (read_text text) out → Tells f text
-tells text out rest (Refused n l g) e = refusal_is (read_text text) n l g out e
-tells text out rest (Written p n k) e = measured text p n k out rest e
+pub tells : (text out rest : List ℕ) (f : Result Written Refusal) → finished_by f rest ≡ finished (read_text text) out → Tells f text
+tells text out rest (Ok w) e = measured text w.parts w.notes w.at out rest e
+tells text out rest (Err r) e = refusal_is (read_text text) (number_of r) (line_of r) (figure_of r) out e
 
 -- ---- the answers, with all that the contract says of them
 
@@ -166,69 +167,61 @@ Stopped text = Question8 text × (Question17 text × OneOrigin text)
 stopped : (text : List ℕ) → Stopped text
 stopped text = (question_8 text, (question_17 text, one_origin text))
 
-abbrev pub Answers : List ℕ → List ℕ → List ℕ → Answered → Type 0
+abbrev pub Answers : List ℕ → List ℕ → List ℕ → Result ℕ Refusal → Type 0
 Answers text old now-out r =
     (numbers_of r ≡ answer_of text old)
-    × (((k f : ℕ) → r ≡ RefusedWith 0 k f → ⊥)
     × ((now-out ≡ buffer_of text old)
-    × (((n : ℕ) → r ≡ Accepted n → Played text now-out) × (((f : ℕ) → r ≡ RefusedWith 13 0 f → f < 2 ^ 32) × Stopped text))))
+    × (((n : ℕ) → r ≡ Ok n → (n ≤ length old) × Played text now-out) × (((f : ℕ) → r ≡ Err (ShortBuffer f) → f < 2 ^ 32) × Stopped text)))
 
-pub answers_refused : (text old : List ℕ) (n l f : ℕ) → read_text text ≡ refusal n l f → Answers text old old (RefusedWith n l f)
-answers_refused text old n l f e =
-    let a = answers_refusal text old n l f e in
-    let few = refusal_number text n l f e in (
+pub answers_refused : (text old : List ℕ) (r : Refusal) → read_text text ≡ refusal (number_of r) (line_of r) (figure_of r) → Answers text old old (Err r)
+answers_refused text old r e =
+    let a = answers_refusal text old (number_of r) (line_of r) (figure_of r) e in (
       sym a.0,
       (
-        λ (k g : ℕ) q. let z : n ≡ 0 = cc in omega (arith, few.0),
+        sym a.1,
         (
-          sym a.1,
-          (
-            λ (k : ℕ) q. clash cc,
-            (λ (g : ℕ) q. absurd (let z : n ≡ 13 = cc in refusal_not_13 text n l f e z), stopped text),
-          ),
+          λ (k : ℕ) q. clash cc,
+          (λ (g : ℕ) q. absurd (refusal_not_13 text (number_of r) (line_of r) (figure_of r) e (is_13 q)), stopped text),
         ),
       ),
     )
+  where
+    is_13 : {g : ℕ} → ◌≡◌ {A = Result ℕ Refusal} (Err r) (Err (ShortBuffer g)) → number_of r ≡ 13
+    is_13 {g} q = let z : r ≡ ShortBuffer g = cc in ap number_of z
 
 pub answers_short : {text : List ℕ} {parts notes at : ℕ} (old : List ℕ) → Measured text parts notes at → length old < 16 + at
-    → Answers text old old (RefusedWith 13 0 (16 + at))
+    → Answers text old old (Err (ShortBuffer (16 + at)))
 answers_short {text} {parts} {notes} {at} old m h =
     let a = answers_13 old m h in (
       sym a.0,
       (
-        λ (k g : ℕ) q. let z : ◌≡◌ {A = ℕ} 13 0 = cc in omega arith,
+        sym a.1,
         (
-          sym a.1,
-          (
-            λ (k : ℕ) q. clash cc,
-            (λ (g : ℕ) q. let z : 16 + at ≡ g = cc in omega (arith, measured_long m), stopped text),
-          ),
+          λ (k : ℕ) q. clash cc,
+          (λ (g : ℕ) q. let z : 16 + at ≡ g = cc in omega (arith, measured_long m), stopped text),
         ),
       ),
     )
 
 pub answers_written : {text : List ℕ} {parts notes at : ℕ} (old : List ℕ) → ((i : ℕ) → get_or text i 0 < 2 ^ 8) → Measured text parts notes at → 16 + at ≤ length old
-    → {now-out : List ℕ} → now-out ≡ buffer_of text old → Answers text old now-out (Accepted (16 + at))
+    → {now-out : List ℕ} → now-out ≡ buffer_of text old → Answers text old now-out (Ok (16 + at))
 answers_written {text} {parts} {notes} {at} old bytes m h {now-out} e = (
   sym (answers_sheet old m h),
   (
-    λ (k g : ℕ) q. clash cc,
+    e,
     (
-      e,
-      (
-        λ (k : ℕ) q. subst (Played text) (sym e) (played text old bytes parts notes m.records m.is (omega (arith, m.size))),
-        (λ (g : ℕ) q. clash cc, stopped text),
-      ),
+      λ (k : ℕ) q. let z : 16 + at ≡ k = cc in (omega arith, subst (Played text) (sym e) (played text old bytes parts notes m.records m.is (omega (arith, m.size)))),
+      (λ (g : ℕ) q. clash cc, stopped text),
     ),
   ),
 )
 
 -- by the case that the first reading's answer is
-pub told_written : (text : List ℕ) (f : Finish) → Tells f text → {p n k : ℕ} → f ≡ Written p n k → Measured text p n k
-told_written text f t e = subst (λ (x : Finish). Tells x text) e t
+pub told_written : (text : List ℕ) (f : Result Written Refusal) → Tells f text → {w : Written} → f ≡ Ok w → Measured text w.parts w.notes w.at
+told_written text f t e = subst (λ (x : Result Written Refusal). Tells x text) e t
 
-pub told_refused : (text : List ℕ) (f : Finish) → Tells f text → {n l g : ℕ} → f ≡ Refused n l g → read_text text ≡ refusal n l g
-told_refused text f t e = subst (λ (x : Finish). Tells x text) e t
+pub told_refused : (text : List ℕ) (f : Result Written Refusal) → Tells f text → {r : Refusal} → f ≡ Err r → read_text text ≡ refusal (number_of r) (line_of r) (figure_of r)
+told_refused text f t e = subst (λ (x : Result Written Refusal). Tells x text) e t
 
 -- question 2, by the length that the code finds
 pub not_utf8_at : (text : List ℕ) {k : ℕ} → length text ≤ 67108864 → k < length text → k ≡ utf8_length text → read_text text ≡ refusal 2 0 k
@@ -238,7 +231,7 @@ pub utf8_whole : (text : List ℕ) {k : ℕ} → (k ≡ utf8_length text) × (k 
 utf8_whole text e h = omega (arith, e.0, e.1)
 
 -- the second reading, and the head over the first 16 bytes
-pub sheet_written : (text old tail final : List ℕ) (parts notes at : ℕ) (f : Finish) → length text ≤ 67108864 → utf8_length text ≡ length text
+pub sheet_written : (text old tail final : List ℕ) (parts notes at : ℕ) (f : Result Written Refusal) → length text ≤ 67108864 → utf8_length text ≡ length text
     → Measured text parts notes at → 16 + at ≤ length old
     → finished_by f tail ≡ lines_at false 0 0 (lines_of text) start 0 (take (length old - 16) (drop 16 old))
     → final ≡ stored (take 16 old ++ (tail ++ drop (length old - 16) (drop 16 old))) (head_bytes (record { parts = parts; length = 16 + at; notes = notes }))

@@ -18,17 +18,21 @@ use Rattle.spines.specs.Cells.{row_of, spine_of}
 use Rattle.reading.specs.State.{Part, State, Result, Step, refused as refused-step, goes, ends, start}
 use Rattle.reading.specs.Records.{read_line, is_record}
 use Rattle.state.specs.declared.Tally.{Tally}
-use Rattle.state.specs.declared.Step.{Step as StepTold}
-use Rattle.state.specs.declared.Step.TheVariants.{Refused, Goes, Ends}
+use Rattle.std.specs.Prelude.{Ok, Err, Result as Answered}
+use Rattle.refusal.specs.Numbers.{number_of, line_of, figure_of}
+use Rattle.refusal.specs.declared.Refusal.{Refusal}
+use Rattle.state.specs.declared.Flow.{Flow}
+use Rattle.state.specs.declared.Flow.TheVariants.{Goes, Ends}
 use Rattle.state.specs.Parts.{rows, parts_of}
-use Rattle.state.specs.View.{state_of, Landed, stopped, going, ending, landed, told_row}
+use Rattle.state.specs.View.{state_of, Landed, stopped, going, ending, landed, told_flow}
 use Rattle.state.specs.Ready.{Ready, Steady}
 use Rattle.state.proofs.PartLaws.{parts_length}
 use Rattle.extent.proofs.StateLaws.{Held, Holds, Passes, widen}
 use Rattle.extent.proofs.RecordLaws.{line_holds}
 use Rattle.extent.proofs.TextLaws.{start_holds}
 use Rattle.records.specs.Here.{Here}
-use Rattle.records.proofs.RecordLaws.{empty_line, comment_line}
+use Rattle.records.proofs.RecordLaws.{quiet_line}
+use Rattle.std.proofs.Common.{inl, inr}
 use Rattle.steady.proofs.LineLaws.{Firmly, start_firm, line_firm, firm_steady}
 use Rattle.reader.specs.Told.{no_tally}
 use Rattle.reader.specs.Landing.{is_passed, refused, finish_at, line_at, lines_at}
@@ -92,10 +96,10 @@ unpaid h = record {
 
 -- a line that does nothing leaves the counts and the buffer
 passed_told : (begun : Bool) (number offset : ℕ) (line out row parts : List ℕ) (t : Tally) (kind : Kind) → kind ≡ kind_of line → is_passed kind ≡ true
-    → told_row (Goes t) row parts out ≡ landed (read_line begun number offset line (state_of (take t.active row) parts t)) out t.at
-passed_told begun number offset line out row parts t Empty k p = empty_line begun (stopped 0 0 0) line out (take t.active row) parts t number offset k refl
+    → told_flow (Ok (Goes t)) row parts out ≡ landed (read_line begun number offset line (state_of (take t.active row) parts t)) out t.at
+passed_told begun number offset line out row parts t Empty k p = quiet_line begun (stopped 0 0 0) line out (take t.active row) parts t number offset k (inl refl)
 passed_told begun number offset line out row parts t Reference k p = clash cc
-passed_told begun number offset line out row parts t Comment k p = comment_line begun (stopped 0 0 0) line out (take t.active row) parts t number offset k refl
+passed_told begun number offset line out row parts t Comment k p = quiet_line begun (stopped 0 0 0) line out (take t.active row) parts t number offset k (inr refl)
 passed_told begun number offset line out row parts t Star k p = clash cc
 passed_told begun number offset line out row parts t Bar k p = clash cc
 passed_told begun number offset line out row parts t Data k p = clash cc
@@ -158,35 +162,35 @@ module _ {text out₀ row parts out : List ℕ} {from number : ℕ} {begun : Boo
         (lines_at (begun || is_record (kind_of line_here)) (number + 1) k (pieces 10 (e + 1) text))) next
 
     -- the step that the code answered, with the row, the parts and the buffer that it left
-    module _ (s : StepTold) (row' parts' out' : List ℕ)
-        (so : told_row s row' parts' out' ≡ landed (read_line begun (number + 1) from line_here (state_of (take t.active row) parts t)) out t.at) where
+    module _ (s : Answered Flow Refusal) (row' parts' out' : List ℕ)
+        (so : told_flow s row' parts' out' ≡ landed (read_line begun (number + 1) from line_here (state_of (take t.active row) parts t)) out t.at) where
       told_decides : lines_at false 0 0 (lines_of text) start 0 out₀
-          ≡ line_at (told_row s row' parts' out') (lines_at (begun || is_record (kind_of line_here)) (number + 1) (e + 1) (pieces 10 (e + 1) text))
+          ≡ line_at (told_flow s row' parts' out') (lines_at (begun || is_record (kind_of line_here)) (number + 1) (e + 1) (pieces 10 (e + 1) text))
       told_decides =
           line_decides ∙ sym (ap (λ (x : Landed). line_at x (lines_at (begun || is_record (kind_of line_here)) (number + 1) (e + 1) (pieces 10 (e + 1) text))) so)
 
       -- the reading is refused
-      pub reading_refused : (n l f : ℕ) → s ≡ Refused n l f → refused n l f ≡ lines_at false 0 0 (lines_of text) start 0 out₀
-      reading_refused n l f is =
+      pub reading_refused : (r : Refusal) → s ≡ Err r → refused (number_of r) (line_of r) (figure_of r) ≡ lines_at false 0 0 (lines_of text) start 0 out₀
+      reading_refused r is =
           sym
           (told_decides
-          ∙ ap (λ (x : StepTold). line_at (told_row x row' parts' out') (lines_at (begun || is_record (kind_of line_here)) (number + 1) (e + 1) (pieces 10 (e + 1) text))) is)
+          ∙ ap (λ (x : Answered Flow Refusal). line_at (told_flow x row' parts' out') (lines_at (begun || is_record (kind_of line_here)) (number + 1) (e + 1) (pieces 10 (e + 1) text))) is)
 
       -- it ends
-      pub reading_ends : (u : Tally) → s ≡ Ends u
+      pub reading_ends : (u : Tally) → s ≡ Ok (Ends u)
           → lines_at false 0 0 (lines_of text) start 0 out₀ ≡ finish_at true (state_of (take u.active row') parts' u) u.at out'
       reading_ends u is =
           told_decides
-          ∙ ap (λ (x : StepTold). line_at (told_row x row' parts' out') (lines_at (begun || is_record (kind_of line_here)) (number + 1) (e + 1) (pieces 10 (e + 1) text))) is
+          ∙ ap (λ (x : Answered Flow Refusal). line_at (told_flow x row' parts' out') (lines_at (begun || is_record (kind_of line_here)) (number + 1) (e + 1) (pieces 10 (e + 1) text))) is
 
       -- it goes on
-      pub reading_turn : (u : Tally) → s ≡ Goes u → length out' ≡ length out → length parts' ≡ 8960
+      pub reading_turn : (u : Tally) → s ≡ Ok (Goes u) → length out' ≡ length out → length parts' ≡ 8960
           → Reading text out₀ row' parts' out' (e + 1) (number + 1) (begun || is_record (kind_of line_here)) u
       reading_turn u is lo p =
           let at : Piece 10 text from e = piece_at_lem on ends_at in
           let went : going (state_of (take u.active row') parts' u) u.at out'
           ≡ landed (read_line begun (number + 1) from line_here (state_of (take t.active row) parts t)) out t.at
-          = ap (λ (x : StepTold). told_row x row' parts' out') (sym is) ∙ so in
+          = ap (λ (x : Answered Flow Refusal). told_flow x row' parts' out') (sym is) ∙ so in
           let step = goes_is (read_line begun (number + 1) from line_here (state_of (take t.active row) parts t)) out t.at went in
           let passes : Passes (0 + 5 * length line_here) 0 (goes step.0)
           = subst (λ (x : Step). Passes (0 + 5 * length line_here) 0 x) step.1
@@ -194,7 +198,7 @@ module _ {text out₀ row parts out : List ℕ} {from number : ℕ} {begun : Boo
           record {
             same =
                 told_decides
-                ∙ ap (λ (x : StepTold). line_at (told_row x row' parts' out') (lines_at (begun || is_record (kind_of line_here)) (number + 1) (e + 1) (pieces 10 (e + 1) text))) is;
+                ∙ ap (λ (x : Answered Flow Refusal). line_at (told_flow x row' parts' out') (lines_at (begun || is_record (kind_of line_here)) (number + 1) (e + 1) (pieces 10 (e + 1) text))) is;
             firm = subst Firmly step.2 (line_firm begun (number + 1) from line_here (state_of (take t.active row) parts t) step.0 inv.firm step.1);
             holds = subst (Holds 0 0) step.2 (unpaid passes);
             out_long = lo ∙ inv.out_long;
@@ -224,27 +228,27 @@ module _ {text out₀ row parts out : List ℕ} {from number : ℕ} {begun : Boo
       numbered = omega (arith, inv.counted, inv.short, on, moved.1);
     }
 
-    module _ (s : StepTold) (row' parts' out' : List ℕ)
-        (so : told_row s row' parts' out' ≡ landed (read_line begun past.line from here-line (state_of (take t.active row) parts t)) out t.at) where
-      so_numbered : told_row s row' parts' out' ≡ landed (read_line begun (number + 1) from here-line (state_of (take t.active row) parts t)) out t.at
+    module _ (s : Answered Flow Refusal) (row' parts' out' : List ℕ)
+        (so : told_flow s row' parts' out' ≡ landed (read_line begun past.line from here-line (state_of (take t.active row) parts t)) out t.at) where
+      so_numbered : told_flow s row' parts' out' ≡ landed (read_line begun (number + 1) from here-line (state_of (take t.active row) parts t)) out t.at
       so_numbered = so ∙ ap (λ (k : ℕ). landed (read_line begun k from here-line (state_of (take t.active row) parts t)) out t.at) moved.1
 
-      so_here : told_row s row' parts' out'
+      so_here : told_flow s row' parts' out'
           ≡ landed (read_line begun (number + 1) from (without_crs (take (past.at - 1 - from) (drop from text))) (state_of (take t.active row) parts t)) out t.at
       so_here = so_numbered ∙ ap (λ (l : List ℕ). landed (read_line begun (number + 1) from l (state_of (take t.active row) parts t)) out t.at) is_line
 
-      pub refused_here : (n l f : ℕ) → s ≡ Refused n l f → refused n l f ≡ lines_at false 0 0 (lines_of text) start 0 out₀
-      refused_here n l f is = reading_refused on ends_at s row' parts' out' so_here n l f is
+      pub refused_here : (r : Refusal) → s ≡ Err r → refused (number_of r) (line_of r) (figure_of r) ≡ lines_at false 0 0 (lines_of text) start 0 out₀
+      refused_here r is = reading_refused on ends_at s row' parts' out' so_here r is
 
-      pub ends_here : (u : Tally) → s ≡ Ends u
+      pub ends_here : (u : Tally) → s ≡ Ok (Ends u)
           → lines_at false 0 0 (lines_of text) start 0 out₀ ≡ finish_at true (state_of (take u.active row') parts' u) u.at out'
       ends_here u is = reading_ends on ends_at s row' parts' out' so_here u is
 
-      pub ends_small : (u : Tally) → s ≡ Ends u → length parts' ≡ 8960 → (length parts' ≡ 8960) × ((u.parts ≤ 256) × (u.bars ≤ 100000))
+      pub ends_small : (u : Tally) → s ≡ Ok (Ends u) → length parts' ≡ 8960 → (length parts' ≡ 8960) × ((u.parts ≤ 256) × (u.bars ≤ 100000))
       ends_small u is p =
           let went : ending (state_of (take u.active row') parts' u) u.at out'
           ≡ landed (read_line begun (number + 1) from here-line (state_of (take t.active row) parts t)) out t.at
-          = ap (λ (x : StepTold). told_row x row' parts' out') (sym is) ∙ so_numbered in
+          = ap (λ (x : Answered Flow Refusal). told_flow x row' parts' out') (sym is) ∙ so_numbered in
           let step = ends_is (read_line begun (number + 1) from here-line (state_of (take t.active row) parts t)) out t.at went in
           let passes : Passes (0 + 5 * length here-line) 0 (ends step.0)
           = subst (λ (x : Step). Passes (0 + 5 * length here-line) 0 x) step.1
@@ -252,7 +256,7 @@ module _ {text out₀ row parts out : List ℕ} {from number : ℕ} {begun : Boo
           let held : Holds 0 0 (state_of (take u.active row') parts' u) = subst (Holds 0 0) step.2 (unpaid passes) in
           (p, (omega (arith, held.parts_few, parts_length u.parts parts'), omega (arith, held.closed, held.notes_few)))
 
-      pub goes_here : (u : Tally) → s ≡ Goes u → length out' ≡ length out → length parts' ≡ 8960 → {begun' : Bool} → begun' ≡ (begun || is_record kind)
+      pub goes_here : (u : Tally) → s ≡ Ok (Goes u) → length out' ≡ length out → length parts' ≡ 8960 → {begun' : Bool} → begun' ≡ (begun || is_record kind)
           → Reading text out₀ row' parts' out' past.at past.line begun' u
       goes_here u is lo p b =
           let next : past.at - 1 + 1 ≡ past.at = omega (arith, moved.0) in
@@ -265,7 +269,7 @@ module _ {text out₀ row parts out : List ℕ} {from number : ℕ} {begun : Boo
     -- a line that does nothing
     pub passed_here : is_passed kind ≡ true → Reading text out₀ row parts out past.at past.line begun t
     passed_here p =
-        goes_here (Goes t) row parts out (passed_told begun past.line from here-line out row parts t kind is-kind p) t refl refl inv.parts_long (passed_begun begun kind p)
+        goes_here (Ok (Goes t)) row parts out (passed_told begun past.line from here-line out row parts t kind is-kind p) t refl refl inv.parts_long (passed_begun begun kind p)
 
   pub at_end : (length parts ≡ 8960) × ((t.parts ≤ 256) × (t.bars ≤ 100000))
   at_end = (inv.parts_long, (omega (arith, steady.parts_few, parts_length t.parts parts), steady.bars_few))

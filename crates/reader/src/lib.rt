@@ -4,6 +4,7 @@
 ghost use Rattle.std.specs.Prelude.{◌≡◌, ℕ, ◌+◌, ◌-◌, ◌≤◌, ◌<◌, ◌^◌, false, List, length, take, drop};
 ghost use Rattle.utf8.specs.Utf8.{utf8_length};
 ghost use Rattle.lines.specs.Lines.{lines_of, without_crs};
+ghost use Rattle.refusal.specs.declared.Refusal.TheVariants.{ShortBuffer};
 ghost use Rattle.reading.specs.State.{start};
 ghost use Rattle.reading.specs.Text.{answer_of, buffer_of};
 ghost use Rattle.state.specs.View.{state_of};
@@ -14,36 +15,21 @@ ghost use Rattle.reader.specs.Answer.{numbers_of};
 ghost use Rattle.reader.specs.Landing.{is_passed, finish_at, lines_at};
 ghost use Rattle.reader.specs.Told.{finished_by, Tells, no_tally};
 ghost use Rattle.reader.specs.Measured.{Measured};
-ghost use Rattle.reader.specs.declared.Answer.TheVariants.{Refused, Accepted};
 
 use lines::Kind;
+use refusal::Refusal;
 use sheet::{Head, Span};
-use state::{Step, Tally};
+use state::{Flow, Tally};
 
-// A refusal with number, line and figure, or an acceptance with the sheet's length.
-#[derive(Clone, Copy)]
-pub enum Answer {
-    Refused {
-        number: usize,
-        line: usize,
-        figure: usize,
-    },
-    Accepted(usize),
-}
+// How long a text may be.
+const MOST_BYTES: usize = 67_108_864;
 
-// What one reading comes to: a refusal, or the counts of parts and notes and the length of the records.
+// What the reading of a text writes: the counts of parts and notes, and the length of the records.
 #[derive(Clone, Copy)]
-enum Finish {
-    Refused {
-        number: usize,
-        line: usize,
-        figure: usize,
-    },
-    Written {
-        parts: usize,
-        notes: u32,
-        at: usize,
-    },
+struct Written {
+    parts: usize,
+    notes: u32,
+    at: usize,
 }
 
 // The counts before the first line.
@@ -65,32 +51,27 @@ fn no_tally() -> Tally
 }
 
 // The end of the text: questions 11 and 12, the last closing, the parts and the end.
-fn finish_text(begun: bool, parts: &mut [u32], tally: Tally, out: &mut [u8]) -> Finish
+fn finish_text(
+    begun: bool,
+    parts: &mut [u32],
+    tally: Tally,
+    out: &mut [u8],
+) -> Result<Written, Refusal>
     requires { (length parts.old ≡ 8960) × ((tally.parts ≤ 256) × (tally.bars ≤ 100000)) }
     ensures { (cells : List ℕ) → finished_by result out.new ≡ finish_at begun (state_of cells parts.old tally) tally.at out.old }
 {
-    if begun {
-        if tally.notes == 0 {
-            return Finish::Refused {
-                number: 12,
-                line: 0,
-                figure: 0,
-            };
-        }
-        let count = tally.parts;
-        let notes = tally.notes;
-        let at = bars::finish(parts, tally, out);
-        return Finish::Written {
-            parts: count,
-            notes,
-            at,
-        };
+    if !begun {
+        return Err(Refusal::NoHeader);
     }
-    Finish::Refused {
-        number: 11,
-        line: 0,
-        figure: 0,
+    if tally.notes == 0 {
+        return Err(Refusal::NoNote);
     }
+    let at = bars::finish(parts, tally, out);
+    Ok(Written {
+        parts: tally.parts,
+        notes: tally.notes,
+        at,
+    })
 }
 
 // The line from one index to another, without its trailing CRs.
@@ -107,14 +88,7 @@ pub fn line_of(text: &[u8], from: usize, end: usize) -> &[u8]
 fn is_passed(kind: Kind) -> bool
     ensures { result ≡ is_passed kind }
 {
-    match kind {
-        Kind::Empty => true,
-        Kind::Reference => false,
-        Kind::Comment => true,
-        Kind::Star => false,
-        Kind::Bar => false,
-        Kind::Data => false,
-    }
+    matches!(kind, Kind::Empty | Kind::Comment)
 }
 
 // How many cells an array has for the row.
@@ -132,7 +106,7 @@ fn read_lines(
     masks: &mut [u8; 8192],
     parts: &mut [u32],
     out: &mut [u8],
-) -> Finish
+) -> Result<Written, Refusal>
     requires { (length text.now ≤ 67108864) × (length parts.old ≡ 8960) }
     ensures { finished_by result out.new ≡ lines_at false 0 0 (lines_of text.now) start 0 out.old }
 {
@@ -151,7 +125,7 @@ fn read_lines(
             continue;
         }
         room(row);
-        match records::read_line(
+        let flow = records::read_line(
             begun,
             line,
             kind,
@@ -163,24 +137,10 @@ fn read_lines(
             number,
             from as u32,
             out,
-        ) {
-            Step::Refused {
-                number,
-                line,
-                figure,
-            } => {
-                return Finish::Refused {
-                    number,
-                    line,
-                    figure,
-                };
-            }
-            Step::Ends(last) => {
-                return finish_text(true, parts, last, out);
-            }
-            Step::Goes(next) => {
-                tally = next;
-            }
+        )?;
+        match flow {
+            Flow::Ends(last) => return finish_text(true, parts, last, out),
+            Flow::Goes(next) => tally = next,
         }
         begun = records::begun_after(begun, kind);
         from = past.at;
@@ -189,7 +149,7 @@ fn read_lines(
 }
 
 // One reading of a text, its records written from the start of a buffer on, each where it fits.
-fn run(text: &[u8], out: &mut [u8]) -> Finish
+fn run(text: &[u8], out: &mut [u8]) -> Result<Written, Refusal>
     requires { length text.now ≤ 67108864 }
     ensures { finished_by result out.new ≡ lines_at false 0 0 (lines_of text.now) start 0 out.old }
 {
@@ -201,7 +161,7 @@ fn run(text: &[u8], out: &mut [u8]) -> Finish
 }
 
 // The first reading of a text, which measures: its records are written nowhere.
-fn measure(text: &[u8]) -> Finish
+fn measure(text: &[u8]) -> Result<Written, Refusal>
     requires { (length text.now ≤ 67108864) × (utf8_length text.now ≡ length text.now) }
     ensures { Tells result text.now }
 {
@@ -210,68 +170,44 @@ fn measure(text: &[u8]) -> Finish
 }
 
 // The sheet of a text that was measured: the second reading writes behind the head.
-fn write_sheet(text: &[u8], out: &mut [u8], parts: usize, notes: u32, at: usize)
-    requires { (length text.now ≤ 67108864) × ((utf8_length text.now ≡ length text.now) × (Measured text.now parts notes at × (16 + at ≤ length out.old))) }
+fn write_sheet(text: &[u8], out: &mut [u8], written: Written)
+    requires { (length text.now ≤ 67108864) × ((utf8_length text.now ≡ length text.now) × (Measured text.now written.parts written.notes written.at × (16 + written.at ≤ length out.old))) }
     ensures { out.new ≡ buffer_of text.now out.old }
 {
-    run(text, &mut out[16..]);
+    // it comes to what the first reading came to
+    let _ = run(text, &mut out[16..]);
     let head = Head {
-        parts: parts as u16,
-        length: (16 + at) as u32,
-        notes,
+        parts: written.parts as u16,
+        length: (16 + written.at) as u32,
+        notes: written.notes,
     };
     sheet::put(out, head);
 }
 
-// Reads a text into a lent buffer. Number, line and figure of a refusal, or the sheet's length; the buffer is unchanged after a refusal, and
-// holds the sheet first and its old bytes behind after an acceptance.
-pub fn read(text: &[u8], out: &mut [u8]) -> Answer
+// Reads a text into a lent buffer. The sheet's length, or why the text is refused; the buffer is unchanged after a refusal, and holds the sheet
+// first and its old bytes behind after an acceptance.
+pub fn read(text: &[u8], out: &mut [u8]) -> Result<usize, Refusal>
     ensures answer { numbers_of result ≡ answer_of text.now out.old }
-    ensures numbered { (k f : ℕ) → result ≡ Refused 0 k f → ⊥ }
     ensures buffer { out.new ≡ buffer_of text.now out.old }
-    ensures played { (n : ℕ) → result ≡ Accepted n → Played text.now out.new }
-    ensures needed { (f : ℕ) → result ≡ Refused 13 0 f → f < 2 ^ 32 }
+    ensures fits { (n : ℕ) → result ≡ Ok n → n ≤ length out.old }
+    ensures played { (n : ℕ) → result ≡ Ok n → Played text.now out.new }
+    ensures needed { (f : ℕ) → result ≡ Err (ShortBuffer f) → f < 2 ^ 32 }
     ensures stopped { Question8 text.now }
     ensures joined { Question17 text.now }
     ensures traced { OneOrigin text.now }
 {
-    let long = text.len() > 67108864;
-    if long {
-        return Answer::Refused {
-            number: 1,
-            line: 0,
-            figure: text.len(),
-        };
+    if text.len() > MOST_BYTES {
+        return Err(Refusal::TooLong { length: text.len() });
     }
     let good = utf8::utf8_length(text);
-    let broken = good < text.len();
-    if broken {
-        return Answer::Refused {
-            number: 2,
-            line: 0,
-            figure: good,
-        };
+    if good < text.len() {
+        return Err(Refusal::NotUtf8 { offset: good });
     }
-    match measure(text) {
-        Finish::Refused {
-            number,
-            line,
-            figure,
-        } => Answer::Refused {
-            number,
-            line,
-            figure,
-        },
-        Finish::Written { parts, notes, at } => {
-            if out.len() < 16 + at {
-                return Answer::Refused {
-                    number: 13,
-                    line: 0,
-                    figure: 16 + at,
-                };
-            }
-            write_sheet(text, out, parts, notes, at);
-            Answer::Accepted(16 + at)
-        }
+    let written = measure(text)?;
+    let needed = 16 + written.at;
+    if out.len() < needed {
+        return Err(Refusal::ShortBuffer { needed });
     }
+    write_sheet(text, out, written);
+    Ok(needed)
 }

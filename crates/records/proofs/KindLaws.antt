@@ -12,14 +12,15 @@ use Rattle.lines.specs.declared.Kind.{Kind}
 use Rattle.lines.specs.declared.Kind.TheVariants.{Empty, Reference, Comment, Star, Bar, Data}
 use Rattle.repair.specs.Repair.{first_of, repaired}
 use Rattle.reading.specs.State.{goes}
-use Rattle.reading.specs.Notices.{placed}
+use Rattle.reading.specs.Notices.{placed, quiet}
 use Rattle.reading.specs.Star.{read_star}
 use Rattle.reading.specs.Bars.{read_bar}
 use Rattle.reading.specs.Notes.{read_data}
 use Rattle.reading.specs.Records.{by_kind}
 use Rattle.state.specs.declared.Tally.{Tally}
-use Rattle.state.specs.declared.Step.{Step as StepTold}
-use Rattle.state.specs.declared.Step.TheVariants.{Goes}
+use Rattle.refusal.specs.declared.Refusal.{Refusal}
+use Rattle.std.specs.Prelude.{Ok, Result, ◌⊎◌}
+use Rattle.std.proofs.Common.{inl, inr}
 use Rattle.state.specs.View.{state_of, Landed, landed, told, told_row}
 use Rattle.stars.specs.Columns.{filled}
 use Rattle.bars.specs.Bars.{filled_bars}
@@ -59,14 +60,14 @@ module _ {row parts : List ℕ} {t : Tally} (u : Under row parts t) (line : List
 
   -- what the three readings say
   pub bar_told : (closed v : Tally) (parts' out' out : List ℕ) → kind_of line ≡ Bar → v ≡ with_active closed t.active
-      → ((offset : ℕ) → told (Goes closed) cells parts' out' ≡ landed (goes (read_bar (placed offset (filled_bars (length cells) ts)) (state_of cells parts t))) out t.at)
-      → (offset : ℕ) → told_row (Goes v) row parts' out' ≡ landed (goes (read_bar (placed offset (repaired t.active ts)) (state_of cells parts t))) out t.at
+      → ((offset : ℕ) → told (Ok closed) cells parts' out' ≡ landed (goes (read_bar (placed offset (filled_bars (length cells) ts)) (state_of cells parts t))) out t.at)
+      → (offset : ℕ) → told_row (Ok v) row parts' out' ≡ landed (goes (read_bar (placed offset (repaired t.active ts)) (state_of cells parts t))) out t.at
   bar_told closed v parts' out' out k e so offset =
-      ap (λ (x : Tally). told_row (Goes x) row parts' out') e
+      ap (λ (x : Tally). told_row (Ok x) row parts' out') e
       ∙ so offset
       ∙ ap (λ (l : List (List ℕ)). landed (goes (read_bar (placed offset l) (state_of cells parts t))) out t.at) (bar_filled k)
 
-  pub data_told : (s : StepTold) (parts' out' out : List ℕ) (number offset : ℕ) → kind_of line ≡ Data
+  pub data_told : (s : Result Tally Refusal) (parts' out' out : List ℕ) (number offset : ℕ) → kind_of line ≡ Data
       → (told s cells parts' out' ≡ landed (read_data number (placed offset (take (length cells) ts)) (state_of cells parts t)) out t.at) × Kept t s
       → told_row s row parts' out' ≡ landed (read_data number (placed offset (repaired t.active ts)) (state_of cells parts t)) out t.at
   data_told s parts' out' out number offset k so =
@@ -75,7 +76,7 @@ module _ {row parts : List ℕ} {t : Tally} (u : Under row parts t) (line : List
       ∙ ap (λ (l : List (List ℕ)). landed (read_data number (placed offset l) (state_of cells parts t)) out t.at) (data_taken k)
 
   -- by the kind that the code matched
-  module _ (s : StepTold) (row' parts' out' out : List ℕ) (number offset : ℕ) (kind : Kind) (is : kind ≡ kind_of line) where
+  module _ (s : Result Tally Refusal) (row' parts' out' out : List ℕ) (number offset : ℕ) (kind : Kind) (is : kind ≡ kind_of line) where
     abbrev comes : Kind → Landed
     comes k = landed (by_kind k number (placed offset (repaired t.active ts)) (state_of cells parts t)) out t.at
 
@@ -99,14 +100,12 @@ module _ {row parts : List ℕ} {t : Tally} (u : Under row parts t) (line : List
 
   -- a kind that is no record
   module _ (out : List ℕ) (number offset : ℕ) (kind : Kind) where
-    pub by_empty : kind ≡ Empty
-        → told_row (Goes t) row parts out ≡ landed (by_kind kind number (placed offset (repaired t.active ts)) (state_of cells parts t)) out t.at
-    by_empty k = quiet_told t cells parts out ∙ ap (λ (x : Kind). landed (by_kind x number (placed offset (repaired t.active ts)) (state_of cells parts t)) out t.at) (sym k)
-
-    pub by_reference : kind ≡ Reference
-        → told_row (Goes t) row parts out ≡ landed (by_kind kind number (placed offset (repaired t.active ts)) (state_of cells parts t)) out t.at
-    by_reference k = quiet_told t cells parts out ∙ ap (λ (x : Kind). landed (by_kind x number (placed offset (repaired t.active ts)) (state_of cells parts t)) out t.at) (sym k)
-
-    pub by_comment : kind ≡ Comment
-        → told_row (Goes t) row parts out ≡ landed (by_kind kind number (placed offset (repaired t.active ts)) (state_of cells parts t)) out t.at
-    by_comment k = quiet_told t cells parts out ∙ ap (λ (x : Kind). landed (by_kind x number (placed offset (repaired t.active ts)) (state_of cells parts t)) out t.at) (sym k)
+    pub by_none : (kind ≡ Empty) ⊎ ((kind ≡ Reference) ⊎ (kind ≡ Comment))
+        → told_row (Ok t) row parts out ≡ landed (by_kind kind number (placed offset (repaired t.active ts)) (state_of cells parts t)) out t.at
+    by_none k = quiet_told t cells parts out ∙ go k
+      where
+        go : (kind ≡ Empty) ⊎ ((kind ≡ Reference) ⊎ (kind ≡ Comment))
+            → landed (goes (quiet (state_of cells parts t))) out t.at ≡ landed (by_kind kind number (placed offset (repaired t.active ts)) (state_of cells parts t)) out t.at
+        go (inl e) = rw e
+        go (inr (inl e)) = rw e
+        go (inr (inr e)) = rw e

@@ -17,8 +17,8 @@ use Rattle.reading.specs.Notices.{placed, notify, quiet}
 use Rattle.reading.specs.Notes as notes
 use Rattle.reading.specs.Records.{notice_repair, by_repair, on_row}
 use Rattle.state.specs.declared.Tally.{Tally}
-use Rattle.state.specs.declared.Step.{Step as StepTold}
-use Rattle.state.specs.declared.Step.TheVariants.{Refused, Goes, Ends}
+use Rattle.refusal.specs.declared.Refusal.{Refusal}
+use Rattle.std.specs.Prelude.{Ok, Err, Result as Answered}
 use Rattle.state.specs.Lay.{laid, behind}
 use Rattle.state.specs.View.{state_of, ending, landed, told, told_row}
 use Rattle.notes.specs.Spot.{Kept}
@@ -28,7 +28,7 @@ use Rattle.writing.proofs.KeptLaws.{kept_same, notify_told}
 
 -- a result that was told, and a step behind it
 pub landed_told : (u : Tally) (cells parts out' : List ℕ) (r : Result) (f : State → Step) (out : List ℕ) (at : ℕ)
-    → told (Goes u) cells parts out' ≡ landed (goes r) out at
+    → told (Ok u) cells parts out' ≡ landed (goes r) out at
     → landed (notes.behind r f) out at ≡ landed (f (state_of cells parts u)) out' u.at
 landed_told u cells parts out' r f out at e =
     let s : state_of cells parts u ≡ r.state = cc in
@@ -55,7 +55,7 @@ some_left (c ∷ cells) line n k at st e h =
 
 -- a result that ends the reading
 pub ends_told : (u : Tally) (cells parts out' : List ℕ) (r : Result) (out : List ℕ) (at : ℕ)
-    → told (Goes u) cells parts out' ≡ landed (goes r) out at → told (Ends u) cells parts out' ≡ landed (ends r) out at
+    → told (Ok u) cells parts out' ≡ landed (goes r) out at → ending (state_of cells parts u) u.at out' ≡ landed (ends r) out at
 ends_told u cells parts out' r out at e =
     let s : state_of cells parts u ≡ r.state = cc in
     let p : u.at ≡ behind at r.records = cc in
@@ -73,23 +73,23 @@ unfolding notice_repair
 repair_noticed r k at line st n e z = rw (e, ne_eqb n 0 z)
 
 -- nothing arises
-pub quiet_told : (t : Tally) (cells parts out : List ℕ) → told (Goes t) cells parts out ≡ landed (goes (quiet (state_of cells parts t))) out t.at
+pub quiet_told : (t : Tally) (cells parts out : List ℕ) → told (Ok t) cells parts out ≡ landed (goes (quiet (state_of cells parts t))) out t.at
 unfolding laid behind
 quiet_told t cells parts out = refl
 
 module _ (r : Repair) (k at : ℕ) (line : List ℕ) (t : Tally) (out : List ℕ) where
   pub no_repair_told : {n : ℕ} → n ≡ repair_notice r → n ≡ 0 → (cells parts : List ℕ)
-      → told (Goes t) cells parts out ≡ landed (goes (notice_repair r k at line (state_of cells parts t))) out t.at
+      → told (Ok t) cells parts out ≡ landed (goes (notice_repair r k at line (state_of cells parts t))) out t.at
   no_repair_told e z cells parts =
       quiet_told t cells parts out
       ∙ ap (λ (x : Result). landed (goes x) out t.at) (sym (no_repair r k at line (state_of cells parts t) (sym e ∙ z)))
 
   pub repair_told : {n len : ℕ} {u : Tally} {out' : List ℕ} → n ≡ repair_notice r → (n ≡ 0 → ⊥) → len ≡ length line
       → (out' ≡ laid out t.at (kept_records t (notice_of n k 0 (span_of at len)) [])) × (u ≡ after_kept t (notice_of n k 0 (span_of at len)) [])
-      → ((cells parts : List ℕ) → told (Goes u) cells parts out' ≡ landed (goes (notice_repair r k at line (state_of cells parts t))) out t.at) × Same t u
+      → ((cells parts : List ℕ) → told (Ok u) cells parts out' ≡ landed (goes (notice_repair r k at line (state_of cells parts t))) out t.at) × Same t u
   repair_told {n} {len} {u} {out'} e z l w = (
     λ (cells parts : List ℕ).
-        ap₂ (λ (x : Tally) (o : List ℕ). told (Goes x) cells parts o) w.1 w.0
+        ap₂ (λ (x : Tally) (o : List ℕ). told (Ok x) cells parts o) w.1 w.0
         ∙ notify_told cells parts t n k 0 (span_of at len) out
         ∙ ap (λ (j : ℕ). landed (goes (notify n k 0 (span_of at j) (state_of cells parts t))) out t.at) l
         ∙ ap (λ (x : Result). landed (goes x) out t.at) (sym (repair_noticed r k at line (state_of cells parts t) n (sym e) z)),
@@ -97,7 +97,6 @@ module _ (r : Repair) (k at : ℕ) (line : List ℕ) (t : Tally) (out : List ℕ
   )
 
 -- a step that keeps the active spines
-pub kept_row : (s : StepTold) (t : Tally) → Kept t s → (row parts out : List ℕ) → told_row s row parts out ≡ told s (take t.active row) parts out
-kept_row (Refused n l f) t k row parts out = refl
-kept_row (Goes u) t k row parts out = ap (λ (n : ℕ). told (Goes u) (take n row) parts out) k.active
-kept_row (Ends u) t k row parts out = ap (λ (n : ℕ). told (Ends u) (take n row) parts out) k.active
+pub kept_row : (s : Answered Tally Refusal) (t : Tally) → Kept t s → (row parts out : List ℕ) → told_row s row parts out ≡ told s (take t.active row) parts out
+kept_row (Ok u) t k row parts out = ap (λ (n : ℕ). told (Ok u) (take n row) parts out) k.active
+kept_row (Err n) t k row parts out = refl

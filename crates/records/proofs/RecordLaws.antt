@@ -22,9 +22,11 @@ use Rattle.reading.specs.Notices.{placed, notify}
 use Rattle.reading.specs.Header.{read_reference, read_header}
 use Rattle.reading.specs.Records.{notice_repair, by_kind, by_repair, on_row, on_record, by_line, is_record, read_line}
 use Rattle.state.specs.declared.Tally.{Tally}
-use Rattle.state.specs.declared.Step.TheVariants.{Goes, Ends}
+use Rattle.std.specs.Prelude.{Ok, ◌⊎◌}
+use Rattle.std.proofs.Common.{inl, inr}
+use Rattle.state.specs.declared.Flow.TheVariants.{Ends}
 use Rattle.state.specs.Lay.{laid}
-use Rattle.state.specs.View.{state_of, Landed, stopped, landed, told, told_row}
+use Rattle.state.specs.View.{state_of, Landed, stopped, ending, landed, told, told_flow}
 use Rattle.writing.specs.Kept.{notice_of, kept_records, after_kept}
 use Rattle.writing.proofs.KeptLaws.{kept_same, notify_told}
 use Rattle.records.specs.Here.{Under, Here, Evenly}
@@ -61,14 +63,14 @@ module _ {row parts : List ℕ} {t : Tally} (h : Under row parts t) (line out : 
   -- with no active spine left
   pub none_told : (u : Tally) (out' : List ℕ) {len : ℕ} → t.active ≡ 0 → len ≡ length line
       → (out' ≡ laid out t.at (kept_records t (notice_of 3 number 0 (span_of offset len)) [])) × (u ≡ after_kept t (notice_of 3 number 0 (span_of offset len)) [])
-      → told_row (Ends u) row parts out' ≡ landed (on_row (row_of cells) number offset line st) out t.at
+      → told_flow (Ok (Ends u)) row parts out' ≡ landed (on_row (row_of cells) number offset line st) out t.at
   none_told u out' {len} z l w =
       let same : Same t u = subst (λ (x : Tally). Same t x) (sym w.1) (kept_same t (notice_of 3 number 0 (span_of offset len)) []) in
-      let so : told (Goes u) cells parts out' ≡ landed (goes (notify 3 number 0 (span_of offset (length line)) st)) out t.at
-      = ap₂ (λ (x : Tally) (o : List ℕ). told (Goes x) cells parts o) w.1 w.0
+      let so : told (Ok u) cells parts out' ≡ landed (goes (notify 3 number 0 (span_of offset (length line)) st)) out t.at
+      = ap₂ (λ (x : Tally) (o : List ℕ). told (Ok x) cells parts o) w.1 w.0
       ∙ notify_told cells parts t 3 number 0 (span_of offset len) out
       ∙ ap (λ (j : ℕ). landed (goes (notify 3 number 0 (span_of offset j) st)) out t.at) l in
-      ap (λ (n : ℕ). told (Ends u) (take n row) parts out') same.active
+      ap (λ (n : ℕ). ending (state_of (take n row) parts u) u.at out') same.active
       ∙ ends_told u cells parts out' (notify 3 number 0 (span_of offset (length line)) st) out t.at so
       ∙ ap (λ (x : Step). landed x out t.at) (sym (none_left cells line number offset st (row_length h ∙ z)))
 
@@ -94,7 +96,7 @@ module _ {row parts : List ℕ} {t : Tally} (h : Under row parts t) (line out : 
         (by_found ∙ ap (λ (x : Repaired). by_repair x number offset line (placed offset (repaired t.active (tokens_of line))) st) e))
 
     pub even_told : {r : Repair} {kind : Kind} (u : Tally) (out' : List ℕ) (x : Landed) → found ≡ Even r → kind ≡ kind_of line
-        → ((cs ps : List ℕ) → told (Goes u) cs ps out' ≡ landed (goes (notice_repair r number offset line (state_of cs ps t))) out t.at) → Same t u
+        → ((cs ps : List ℕ) → told (Ok u) cs ps out' ≡ landed (goes (notice_repair r number offset line (state_of cs ps t))) out t.at) → Same t u
         → x ≡ landed (by_kind kind number (placed offset (repaired u.active (tokens_of line))) (state_of (take u.active row) parts u)) out' u.at
         → x ≡ landed (on_row (row_of cells) number offset line st) out t.at
     even_told {r} {kind} u out' x e k noticed same so =
@@ -122,41 +124,18 @@ module _ (begun : Bool) (x : Landed) (line out cells parts : List ℕ) (t : Tall
     unfolding read_line
     by_kind_lem k e = ap (λ (y : Kind). by_line y begun number offset line (state_of cells parts t)) (sym is-kind ∙ e)
 
-    pub empty_line : kind ≡ Empty → told (Goes t) cells parts out ≡ landed (read_line begun number offset line (state_of cells parts t)) out t.at
-    empty_line e = quiet_told t cells parts out ∙ sym (ap (λ (y : Step). landed y out t.at) (by_kind_lem Empty e))
-
-    pub comment_line : kind ≡ Comment → told (Goes t) cells parts out ≡ landed (read_line begun number offset line (state_of cells parts t)) out t.at
-    comment_line e = quiet_told t cells parts out ∙ sym (ap (λ (y : Step). landed y out t.at) (by_kind_lem Comment e))
+    -- a line that does nothing
+    pub quiet_line : (kind ≡ Empty) ⊎ (kind ≡ Comment) → told (Ok t) cells parts out ≡ landed (read_line begun number offset line (state_of cells parts t)) out t.at
+    quiet_line (inl e) = quiet_told t cells parts out ∙ sym (ap (λ (y : Step). landed y out t.at) (by_kind_lem Empty e))
+    quiet_line (inr e) = quiet_told t cells parts out ∙ sym (ap (λ (y : Step). landed y out t.at) (by_kind_lem Comment e))
 
     pub reference_line : kind ≡ Reference → x ≡ landed (goes (read_reference number offset line (state_of cells parts t))) out t.at
         → x ≡ landed (read_line begun number offset line (state_of cells parts t)) out t.at
     reference_line e so = so ∙ sym (ap (λ (y : Step). landed y out t.at) (by_kind_lem Reference e))
 
-    star_line : kind ≡ Star → x ≡ landed (on_record begun number offset line (state_of cells parts t)) out t.at
-        → x ≡ landed (read_line begun number offset line (state_of cells parts t)) out t.at
-    star_line e so = so ∙ sym (ap (λ (y : Step). landed y out t.at) (by_kind_lem Star e))
-
-    bar_line : kind ≡ Bar → x ≡ landed (on_record begun number offset line (state_of cells parts t)) out t.at
-        → x ≡ landed (read_line begun number offset line (state_of cells parts t)) out t.at
-    bar_line e so = so ∙ sym (ap (λ (y : Step). landed y out t.at) (by_kind_lem Bar e))
-
-    data_line : kind ≡ Data → x ≡ landed (on_record begun number offset line (state_of cells parts t)) out t.at
-        → x ≡ landed (read_line begun number offset line (state_of cells parts t)) out t.at
-    data_line e so = so ∙ sym (ap (λ (y : Step). landed y out t.at) (by_kind_lem Data e))
-
     -- a record of whatever kind
-    pub record_line : is_record kind ≡ true → x ≡ landed (on_record begun number offset line (state_of cells parts t)) out t.at
+    pub record_line : (kind ≡ Star) ⊎ ((kind ≡ Bar) ⊎ (kind ≡ Data)) → x ≡ landed (on_record begun number offset line (state_of cells parts t)) out t.at
         → x ≡ landed (read_line begun number offset line (state_of cells parts t)) out t.at
-    record_line r so = go kind refl r
-      where
-        go : (k : Kind) → kind ≡ k → is_record k ≡ true → x ≡ landed (read_line begun number offset line (state_of cells parts t)) out t.at
-        go Empty e q = absurd (false≢true q)
-        go Reference e q = absurd (false≢true q)
-        go Comment e q = absurd (false≢true q)
-        go Star e q = star_line e so
-        go Bar e q = bar_line e so
-        go Data e q = data_line e so
-
--- a line that is no record is of no record's kind
-pub no_record : {b : Bool} (kind k : Kind) → b ≡ is_record kind → b ≡ false → kind ≡ k → is_record k ≡ true → ⊥
-no_record kind k r f e q = false≢true (sym f ∙ r ∙ ap is_record e ∙ q)
+    record_line (inl e) so = so ∙ sym (ap (λ (y : Step). landed y out t.at) (by_kind_lem Star e))
+    record_line (inr (inl e)) so = so ∙ sym (ap (λ (y : Step). landed y out t.at) (by_kind_lem Bar e))
+    record_line (inr (inr e)) so = so ∙ sym (ap (λ (y : Step). landed y out t.at) (by_kind_lem Data e))

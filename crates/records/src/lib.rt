@@ -12,15 +12,15 @@ ghost use Rattle.reading.specs.Notices.{placed};
 ghost use Rattle.reading.specs.Bars.{read_bar};
 ghost use Rattle.reading.specs.Notes.{read_data};
 ghost use Rattle.reading.specs.Records.{notice_repair, is_record, by_kind, on_row, on_record, read_line};
-ghost use Rattle.state.specs.View.{state_of, landed, told, told_row};
-ghost use Rattle.state.specs.declared.Step.TheVariants.{Goes};
+ghost use Rattle.state.specs.View.{state_of, landed, told, told_row, told_flow};
 ghost use Rattle.state.specs.Counts.{Same};
 ghost use Rattle.records.specs.Here.{Under, Here, Evenly};
 
 use lines::Kind;
+use refusal::Refusal;
 use repair::{Repair, Repaired};
 use sheet::Span;
-use state::{Step, Tally};
+use state::{Flow, Tally};
 
 // The number of the notice that says of a repair; 0 is none.
 fn repair_notice(repair: Repair) -> u8
@@ -44,7 +44,7 @@ fn notice_repair(
     out: &mut [u8],
 ) -> Tally
     requires { offset + length line.now < 2 ^ 27 }
-    ensures told { (cells parts : List ℕ) → told (Goes result) cells parts out.new ≡ landed (goes (notice_repair repair number offset line.now (state_of cells parts tally))) out.old tally.at }
+    ensures told { (cells parts : List ℕ) → told (Ok result) cells parts out.new ≡ landed (goes (notice_repair repair number offset line.now (state_of cells parts tally))) out.old tally.at }
     ensures same { Same tally result }
 {
     let n = repair_notice(repair);
@@ -68,34 +68,24 @@ fn notice_repair(
 fn is_record(kind: Kind) -> bool
     ensures { result ≡ is_record kind }
 {
-    match kind {
-        Kind::Empty => false,
-        Kind::Reference => false,
-        Kind::Comment => false,
-        Kind::Star => true,
-        Kind::Bar => true,
-        Kind::Data => true,
-    }
+    matches!(kind, Kind::Star | Kind::Bar | Kind::Data)
 }
 
 // Whether the header has been met once a line of some kind is read.
 pub fn begun_after(begun: bool, kind: Kind) -> bool
     ensures { result ≡ (begun || is_record kind) }
 {
-    if begun {
-        return true;
-    }
-    is_record(kind)
+    begun || is_record(kind)
 }
 
 // A barline record under the first cells of an array.
-fn bar_of(line: &[u8], row: &[u16], parts: &mut [u32], tally: Tally, out: &mut [u8]) -> Step
+fn bar_of(line: &[u8], row: &[u16], parts: &mut [u32], tally: Tally, out: &mut [u8]) -> Tally
     requires { Under row.now parts.old tally × ((kind_of line.now ≡ Bar) × Evenly tally.active line.now) }
-    ensures { (offset : ℕ) → told_row result row.now parts.new out.new ≡ landed (goes (read_bar (placed offset (repaired tally.active (tokens_of line.now))) (state_of (take tally.active row.now) parts.old tally))) out.old tally.at }
+    ensures { (offset : ℕ) → told_row (Ok result) row.now parts.new out.new ≡ landed (goes (read_bar (placed offset (repaired tally.active (tokens_of line.now))) (state_of (take tally.active row.now) parts.old tally))) out.old tally.at }
 {
     let active = tally.active;
     let closed = bars::read_bar(line, &row[..active], parts, tally, out);
-    Step::Goes(state::with_active(closed, active))
+    state::with_active(closed, active)
 }
 
 // A data record under the first cells of an array.
@@ -107,7 +97,7 @@ fn data_of(
     number: u32,
     offset: u32,
     out: &mut [u8],
-) -> Step
+) -> Result<Tally, Refusal>
     requires { Under row.now parts.old tally × (((offset + length line.now < 2 ^ 27) × (number < 2 ^ 27)) × ((kind_of line.now ≡ Data) × Evenly tally.active line.now)) }
     ensures { told_row result row.now parts.new out.new ≡ landed (read_data number (placed offset (repaired tally.active (tokens_of line.now))) (state_of (take tally.active row.now) parts.old tally)) out.old tally.at }
 {
@@ -127,17 +117,15 @@ fn read_even(
     number: u32,
     offset: u32,
     out: &mut [u8],
-) -> Step
+) -> Result<Tally, Refusal>
     requires { Here line.now row.old parts.old tally number offset × ((kind ≡ kind_of line.now) × Evenly tally.active line.now) }
     ensures { told_row result row.new parts.new out.new ≡ landed (by_kind kind number (placed offset (repaired tally.active (tokens_of line.now))) (state_of (take tally.active row.old) parts.old tally)) out.old tally.at }
 {
     match kind {
-        Kind::Empty => Step::Goes(tally),
-        Kind::Reference => Step::Goes(tally),
-        Kind::Comment => Step::Goes(tally),
         Kind::Star => stars::read_star(line, row, new, masks, parts, tally, number, offset, out),
-        Kind::Bar => bar_of(line, row, parts, tally, out),
+        Kind::Bar => Ok(bar_of(line, row, parts, tally, out)),
         Kind::Data => data_of(line, row, parts, tally, number, offset, out),
+        Kind::Empty | Kind::Reference | Kind::Comment => Ok(tally),
     }
 }
 
@@ -153,9 +141,9 @@ fn read_record(
     number: u32,
     offset: u32,
     out: &mut [u8],
-) -> Step
+) -> Result<Flow, Refusal>
     requires { Here line.now row.old parts.old tally number offset × (kind ≡ kind_of line.now) }
-    ensures { told_row result row.new parts.new out.new ≡ landed (on_row (row_of (take tally.active row.old)) number offset line.now (state_of (take tally.active row.old) parts.old tally)) out.old tally.at }
+    ensures { told_flow result row.new parts.new out.new ≡ landed (on_row (row_of (take tally.active row.old)) number offset line.now (state_of (take tally.active row.old) parts.old tally)) out.old tally.at }
 {
     let active = tally.active;
     if active == 0 {
@@ -170,24 +158,20 @@ fn read_record(
                 len: line.len() as u32,
             },
         );
-        return Step::Ends(noticed);
+        return Ok(Flow::Ends(noticed));
     }
     match repair::repair_record(line, active) {
-        Repaired::Uneven(n) => Step::Refused {
-            number: 6,
-            line: number as usize,
-            figure: n,
-        },
-        Repaired::Mixed => Step::Refused {
-            number: 7,
-            line: number as usize,
-            figure: 0,
-        },
+        Repaired::Uneven(columns) => Err(Refusal::Uneven {
+            line: number,
+            columns,
+        }),
+        Repaired::Mixed => Err(Refusal::Mixed { line: number }),
         Repaired::Even(repair) => {
             let noticed = notice_repair(repair, line, tally, number, offset, out);
-            read_even(
+            let read = read_even(
                 line, kind, row, new, masks, parts, noticed, number, offset, out,
-            )
+            )?;
+            Ok(Flow::Goes(read))
         }
     }
 }
@@ -205,16 +189,17 @@ fn on_record(
     number: u32,
     offset: u32,
     out: &mut [u8],
-) -> Step
+) -> Result<Flow, Refusal>
     requires { Here line.now row.old parts.old tally number offset × (kind ≡ kind_of line.now) }
-    ensures { told_row result row.new parts.new out.new ≡ landed (on_record begun number offset line.now (state_of (take tally.active row.old) parts.old tally)) out.old tally.at }
+    ensures { told_flow result row.new parts.new out.new ≡ landed (on_record begun number offset line.now (state_of (take tally.active row.old) parts.old tally)) out.old tally.at }
 {
     if begun {
         return read_record(
             line, kind, row, new, masks, parts, tally, number, offset, out,
         );
     }
-    header::read_header(line, row, parts, tally, number, offset, out)
+    let read = header::read_header(line, row, parts, tally, number, offset, out)?;
+    Ok(Flow::Goes(read))
 }
 
 // A line without its trailing CRs, of some kind, whose number and offset are given.
@@ -230,25 +215,19 @@ pub fn read_line(
     number: u32,
     offset: u32,
     out: &mut [u8],
-) -> Step
+) -> Result<Flow, Refusal>
     requires { Here line.now row.old parts.old tally number offset × (kind ≡ kind_of line.now) }
-    ensures { told_row result row.new parts.new out.new ≡ landed (read_line begun number offset line.now (state_of (take tally.active row.old) parts.old tally)) out.old tally.at }
+    ensures { told_flow result row.new parts.new out.new ≡ landed (read_line begun number offset line.now (state_of (take tally.active row.old) parts.old tally)) out.old tally.at }
 {
-    if is_record(kind) {
-        return on_record(
-            begun, line, kind, row, new, masks, parts, tally, number, offset, out,
-        );
-    }
-    let active = tally.active;
     match kind {
-        Kind::Empty => Step::Goes(tally),
-        Kind::Comment => Step::Goes(tally),
+        Kind::Empty | Kind::Comment => Ok(Flow::Goes(tally)),
         Kind::Reference => {
+            let active = tally.active;
             let set = header::read_reference(line, number, offset, tally, out);
-            Step::Goes(state::with_active(set, active))
+            Ok(Flow::Goes(state::with_active(set, active)))
         }
-        Kind::Star => Step::Goes(tally),
-        Kind::Bar => Step::Goes(tally),
-        Kind::Data => Step::Goes(tally),
+        Kind::Star | Kind::Bar | Kind::Data => on_record(
+            begun, line, kind, row, new, masks, parts, tally, number, offset, out,
+        ),
     }
 }

@@ -3,7 +3,7 @@
 use mathlib.Core.Path.{◌≡◌, refl, sym, ap, subst, ◌∙◌}
 use Prim.Native.Nat.{ℕ, suc, ◌+◌, ◌-◌, ◌<◌, ◌^◌}
 use native.Mathlib.Omega.{arith}
-use mathlib.Core.Bool.{Bool, true, false, cond, not}
+use mathlib.Core.Bool.{Bool, true, false, cond, not, false≢true}
 use mathlib.Core.List.{List, [], ◌∷◌, ◌++◌, map}
 use mathlib.Core.Option.{some}
 use lib.Dec.{eqb, leb, ltb}
@@ -50,8 +50,10 @@ use Rattle.account.proofs.ResultLaws.{Adds}
 use Rattle.account.proofs.RowLaws.{Follows, follows_first, reads_on, kind_star}
 use Rattle.demand.specs.Played.{Played}
 use Rattle.reader.specs.Answer.{numbers_of}
-use Rattle.reader.specs.declared.Answer.{Answer as Answered}
-use Rattle.reader.specs.declared.Answer.TheVariants.{Refused, Accepted}
+use Rattle.std.specs.Prelude.{Result as Answered, Ok, Err}
+use Rattle.refusal.specs.Numbers.{number_of}
+use Rattle.refusal.specs.declared.Refusal.{Refusal}
+use Rattle.refusal.specs.declared.Refusal.TheVariants.{TooLong, NotUtf8, NotExclusive, ManyColumns, NoKern, Uneven as UnevenText, Mixed as MixedText, StaffFull, ManySpines, ManyNotes, NoHeader, NoNote, ShortBuffer, MixedJoin}
 use Rattle.staff.specs.Row.{row_by, moved_by, headed_by, row_past, row_through, walked_at, Within}
 use Rattle.staff.specs.Filling.{filling_by, filling_of}
 
@@ -259,22 +261,32 @@ filling_none text n = go (read_text text) n
     go (accepted parts notes rs) n = refl
 
 -- ---- what the reader promises, and the list beside it
-abbrev Promised : List ℕ → List ℕ → List ℕ → Answered → Type 0
+abbrev Promised : List ℕ → List ℕ → List ℕ → Answered ℕ Refusal → Type 0
 Promised text old new r =
     (numbers_of r ≡ answer_of text old)
-    × (((k f : ℕ) → r ≡ Refused 0 k f → ⊥)
     × ((new ≡ buffer_of text old)
-    × (((n : ℕ) → r ≡ Accepted n → Played text new) × (((f : ℕ) → r ≡ Refused 13 0 f → f < 2 ^ 32) × (Question8 text × (Question17 text × OneOrigin text))))))
+    × (((n : ℕ) → r ≡ Ok n → Played text new) × (((f : ℕ) → r ≡ Err (ShortBuffer f) → f < 2 ^ 32) × (Question8 text × (Question17 text × OneOrigin text)))))
 
-abbrev Explains : List ℕ → List ℕ → List ℕ → Answered → Holders → Type 0
+abbrev Explains : List ℕ → List ℕ → List ℕ → Answered ℕ Refusal → Holders → Type 0
 Explains text old new r held =
-    (numbers_of r ≡ answer_of text old)
-    × (((k f : ℕ) → r ≡ Refused 0 k f → ⊥)
-    × ((new ≡ buffer_of text old)
-    × (((n : ℕ) → r ≡ Accepted n → Played text new)
-    × (((f : ℕ) → r ≡ Refused 13 0 f → f < 2 ^ 32)
-    × (Question8 text
-    × (Question17 text × (OneOrigin text × (((listed held ≡ filling_of text) × Kept held) × ((k q : ℕ) → r ≡ Refused 8 k q → Five (listed held))))))))))
+    Promised text old new r × (((listed held ≡ filling_of text) × Kept held) × ((k q : ℕ) → r ≡ Err (StaffFull k q) → Five (listed held)))
+
+-- question 8 is that of a full staff alone
+eight : (r : Refusal) → number_of r ≡ 8 → (k : ℕ) × ((q : ℕ) × (r ≡ StaffFull k q))
+eight (TooLong n) e = absurd (omega arith)
+eight (NotUtf8 n) e = absurd (omega arith)
+eight (NotExclusive k) e = absurd (omega arith)
+eight (ManyColumns k n) e = absurd (omega arith)
+eight (NoKern k) e = absurd (omega arith)
+eight (UnevenText k n) e = absurd (omega arith)
+eight (MixedText k) e = absurd (omega arith)
+eight (StaffFull k q) e = (k, (q, refl))
+eight (ManySpines k n) e = absurd (omega arith)
+eight (ManyNotes k) e = absurd (omega arith)
+eight NoHeader e = absurd (omega arith)
+eight NoNote e = absurd (omega arith)
+eight (ShortBuffer n) e = absurd (omega arith)
+eight (MixedJoin k c) e = absurd (omega arith)
 
 -- the text's own refusal
 text_refused : (text old : List ℕ) (n k q : ℕ) → (n, k, q) ≡ answer_of text old → n ≡ 8 → read_text text ≡ refusal 8 k q
@@ -298,28 +310,34 @@ text_other : (text old : List ℕ) (a : ℕ × ℕ × ℕ) → a ≡ answer_of t
 unfolding answer_of
 text_other text old a e n k q is = n (ap (λ (x : ℕ × ℕ × ℕ). x.0) (e ∙ ap (λ (x : Answer). answered x (length old)) is))
 
-module _ (text old new : List ℕ) {r : Answered} (p : Promised text old new r) where
-  with_list : {held : Holders} → (listed held ≡ filling_of text) × Kept held → ((k q : ℕ) → r ≡ Refused 8 k q → Five (listed held)) → Explains text old new r held
-  with_list e f = (p.0, (p.1.0, (p.1.1.0, (p.1.1.1.0, (p.1.1.1.1.0, (p.1.1.1.1.1.0, (p.1.1.1.1.1.1.0, (p.1.1.1.1.1.1.1, (e, f)))))))))
+module _ (text old new : List ℕ) {r : Answered ℕ Refusal} (p : Promised text old new r) where
+  full : {k q : ℕ} → r ≡ Err (StaffFull k q) → Filled text k q
+  full {k} {q} is = filled text k q (text_refused text old 8 k q (sym (ap numbers_of is) ∙ p.0) refl)
 
-  module _ {n k q : ℕ} (is : r ≡ Refused n k q) where
-    numbers : (n, k, q) ≡ answer_of text old
-    numbers = sym (ap numbers_of is) ∙ p.0
+  pub within_text : {f : Refusal} → r ≡ Err f → (k q : ℕ) → f ≡ StaffFull k q → Within text k
+  within_text is k q e = (full (is ∙ ap Err e)).within
 
-    pub within_text : n ≡ 8 → Within text k
-    within_text e = (filled text k q (text_refused text old n k q numbers e)).within
+  -- a text that isn't refused with 8
+  other : ((k q : ℕ) → r ≡ Err (StaffFull k q) → ⊥) → (a : Answered ℕ Refusal) → r ≡ a → (numbers_of a).0 ≡ 8 → ⊥
+  other n (Ok m) is e = omega arith
+  other n (Err f) is e = let x = eight f e in n x.0 x.1.0 (is ∙ ap Err x.1.1)
 
-    pub explains_8 : {held : Holders} → n ≡ 8 → (listed held ≡ walked_at text k q) × Kept held → Explains text old new (Refused n k q) held
-    explains_8 {held} e (w, kept) =
-        let f : Filled text k q = filled text k q (text_refused text old n k q numbers e) in
-        subst (λ (a : Answered). Explains text old new a held) is (with_list (w ∙ f.same, kept) (λ k' q' x. rw (w ∙ f.same) f.five))
+  explains_none : {held : Holders} → ((k q : ℕ) → r ≡ Err (StaffFull k q) → ⊥) → (listed held ≡ []) × Kept held → Explains text old new r held
+  explains_none n (w, kept) = (p, ((w ∙ sym (filling_none text (text_other text old (numbers_of r) p.0 (other n r refl))), kept), λ k q x. absurd (n k q x)))
 
-    pub explains_other : {held : Holders} → (n ≡ 8 → ⊥) → (listed held ≡ []) × Kept held → Explains text old new (Refused n k q) held
-    explains_other {held} e (w, kept) =
-        subst (λ (a : Answered). Explains text old new a held) is
-        (with_list (w ∙ sym (filling_none text (text_other text old (n, k, q) numbers e)), kept) (λ k' q' x. absurd (e (let y : Refused n k q ≡ Refused 8 k' q' = sym is ∙ x in cc))))
+  pub explains_accepted : {n : ℕ} {held : Holders} → r ≡ Ok n → (listed held ≡ []) × Kept held → Explains text old new r held
+  explains_accepted {n} is e = explains_none (λ k q x. clash (let y : Ok n ≡ Err (StaffFull k q) = sym is ∙ x in cc)) e
 
-  pub explains_accepted : {n : ℕ} {held : Holders} → r ≡ Accepted n → (listed held ≡ []) × Kept held → Explains text old new r held
-  explains_accepted {n} {held} is (w, kept) =
-      with_list (w ∙ sym (filling_none text (text_other text old (0, 0, n) (sym (ap numbers_of is) ∙ p.0) (λ z. omega arith))), kept)
-      (λ k q x. clash (let y : Accepted n ≡ Refused 8 k q = sym is ∙ x in cc))
+  pub explains_refused : {f : Refusal} {held : Holders} → r ≡ Err f → ((k q : ℕ) → f ≡ StaffFull k q → listed held ≡ walked_at text k q)
+      → (((k q : ℕ) → f ≡ StaffFull k q → ⊥) → listed held ≡ []) → Kept held → Explains text old new (Err f) held
+  explains_refused {f} {held} is w n kept = subst (λ (a : Answered ℕ Refusal). Explains text old new a held) is (go (eqb (number_of f) 8) refl)
+    where
+      go : (b : Bool) → eqb (number_of f) 8 ≡ b → Explains text old new r held
+      go true e =
+          let x = eight f (eqb-true (number_of f) 8 e) in
+          let t : Filled text x.0 x.1.0 = full (is ∙ ap Err x.1.1) in
+          let same : listed held ≡ filling_of text = w x.0 x.1.0 x.1.1 ∙ t.same in
+          (p, ((same, kept), λ k q y. rw same t.five))
+      go false e =
+          let no : (k q : ℕ) → f ≡ StaffFull k q → ⊥ = λ k q y. false≢true (sym e ∙ ap (λ (g : Refusal). eqb (number_of g) 8) y) in
+          explains_none (λ k q y. no k q (let z : Err f ≡ Err (StaffFull k q) = sym is ∙ y in cc)) (n no, kept)

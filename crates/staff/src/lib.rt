@@ -1,7 +1,7 @@
 #![tactic(auto)]
 
 // Reads a text as `reader::read` does, and says of one that is refused with 8 which lines fill the staff.
-ghost use Rattle.std.specs.Prelude.{◌≡◌, ℕ, ◌≤◌, ◌<◌, ◌^◌, length, take};
+ghost use Rattle.std.specs.Prelude.{◌≡◌, ℕ, ◌≤◌, ◌<◌, ◌^◌, [], length, take};
 ghost use Rattle.lines.specs.Lines.{kind_of};
 ghost use Rattle.spines.specs.Cells.{row_of};
 ghost use Rattle.voices.specs.Outcome.{active_after};
@@ -14,19 +14,19 @@ ghost use Rattle.account.specs.Reached.{Question8, Question17};
 ghost use Rattle.account.specs.Rows.{header_of};
 ghost use Rattle.demand.specs.Played.{Played};
 ghost use Rattle.reader.specs.Answer.{numbers_of};
-ghost use Rattle.reader.specs.declared.Answer.TheVariants.{Refused, Accepted};
+ghost use Rattle.refusal.specs.declared.Refusal.TheVariants.{StaffFull, ShortBuffer};
 ghost use Rattle.staff.specs.Row.{moved_by, headed_by, row_past, walked_at, Within, Reached};
 ghost use Rattle.staff.specs.Filling.{filling_of};
 
 use holders::Holders;
 use lines::Kind;
-use reader::Answer;
+use refusal::Refusal;
 use voices::Step;
 
 // The reader's answer, and the lines that fill the staff: five of a text that is refused with 8, none of any other.
 #[derive(Clone, Copy)]
 pub struct Explained {
-    pub answer: Answer,
+    pub answer: Result<usize, Refusal>,
     pub lines: Holders,
 }
 
@@ -191,37 +191,40 @@ fn filling(text: &[u8], k: usize, part: usize) -> Holders
     filling_on(text, k, part, &mut row, &mut new, &mut masks)
 }
 
+// The lines that fill the staff of a text that is refused with 8, none of one that is refused otherwise.
+fn lines_behind(text: &[u8], refusal: Refusal) -> Holders
+    requires { (k q : ℕ) → refusal ≡ StaffFull k q → Within text.now k }
+    ensures full { (k q : ℕ) → refusal ≡ StaffFull k q → listed result ≡ walked_at text.now k q }
+    ensures other { ((k q : ℕ) → refusal ≡ StaffFull k q → ⊥) → listed result ≡ [] }
+    ensures kept { Kept result }
+{
+    match refusal {
+        Refusal::StaffFull { line, part } => filling(text, line as usize, part),
+        _ => holders::nobody(),
+    }
+}
+
 // Reads a text into a lent buffer as `reader::read` does. Where it is refused with 8, the columns that carry a line of the part on through the
 // record, and then its branches up to the one that finds no voice: five entries, each its column, voice and header column.
 pub fn read_with_lines(text: &[u8], out: &mut [u8]) -> Explained
     ensures answer { numbers_of result.answer ≡ answer_of text.now out.old }
-    ensures numbered { (k f : ℕ) → result.answer ≡ Refused 0 k f → ⊥ }
     ensures buffer { out.new ≡ buffer_of text.now out.old }
-    ensures played { (n : ℕ) → result.answer ≡ Accepted n → Played text.now out.new }
-    ensures needed { (f : ℕ) → result.answer ≡ Refused 13 0 f → f < 2 ^ 32 }
+    ensures played { (n : ℕ) → result.answer ≡ Ok n → Played text.now out.new }
+    ensures needed { (f : ℕ) → result.answer ≡ Err (ShortBuffer f) → f < 2 ^ 32 }
     ensures stopped { Question8 text.now }
     ensures joined { Question17 text.now }
     ensures traced { OneOrigin text.now }
     ensures lines { (listed result.lines ≡ filling_of text.now) × Kept result.lines }
-    ensures filled { (k q : ℕ) → result.answer ≡ Refused 8 k q → Five (listed result.lines) }
+    ensures filled { (k q : ℕ) → result.answer ≡ Err (StaffFull k q) → Five (listed result.lines) }
 {
     let answer = reader::read(text, out);
     match answer {
-        Answer::Refused {
-            number,
-            line,
-            figure,
-        } => {
-            let full = number == 8;
-            if full {
-                let lines = filling(text, line, figure);
-                return Explained { answer, lines };
-            }
+        Ok(_) => {
             let lines = holders::nobody();
             Explained { answer, lines }
         }
-        Answer::Accepted(_) => {
-            let lines = holders::nobody();
+        Err(refusal) => {
+            let lines = lines_behind(text, refusal);
             Explained { answer, lines }
         }
     }

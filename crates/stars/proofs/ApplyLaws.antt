@@ -1,4 +1,5 @@
 -- One column: what an interpretation comes to in the flat state.
+use Rattle.std.specs.Prelude.{Ok}
 use mathlib.Core.Path.{◌≡◌, refl, sym, ap, ap₂, ◌∙◌, subst}
 use Prim.Native.Nat.{ℕ, ◌+◌, ◌-◌, ◌*◌, ◌/◌, ◌%◌, ◌≤◌, ◌<◌}
 use native.Mathlib.Omega.{arith}
@@ -27,7 +28,6 @@ use Rattle.reading.specs.State.{Part, State, Result, goes, fresh_part, part_at, 
 use Rattle.reading.specs.Notices.{Token, quiet, notify}
 use Rattle.reading.specs.Star.{applied, heeded, interpret, column_by, first_tempo}
 use Rattle.state.specs.declared.Tally.{Tally}
-use Rattle.state.specs.declared.Step.TheVariants.{Goes}
 use Rattle.state.specs.Lay.{laid, behind}
 use Rattle.state.specs.Parts.{part_of, parts_of}
 use Rattle.state.specs.View.{state_of, landed, told}
@@ -65,7 +65,7 @@ pub comes_notice : {f : State → Result} {parts out out' : List ℕ} {t r : Tal
     → ((st : State) → f st ≡ notify number k column value st) → Comes f parts out t parts out' r
 comes_notice {f} {parts} {out} {out'} {t} {r} number k column value w e = comes_as e (record {
   same = λ (cells : List ℕ).
-      ap₂ (λ (x : Tally) (o : List ℕ). told (Goes x) cells parts o) w.1 w.0 ∙ notify_told cells parts t number k column value out;
+      ap₂ (λ (x : Tally) (o : List ℕ). told (Ok x) cells parts o) w.1 w.0 ∙ notify_told cells parts t number k column value out;
   held = subst (Same t) (sym w.1) (kept_same t (notice_of number k column value) []);
 })
 

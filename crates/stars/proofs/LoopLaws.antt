@@ -1,4 +1,5 @@
 -- The loop over the columns of a star record.
+use Rattle.std.specs.Prelude.{Ok}
 use mathlib.Core.Path.{◌≡◌, refl, sym, ap, ap₂, ◌∙◌}
 use Prim.Native.Nat.{ℕ, zero, suc, ◌+◌, ◌-◌, ◌≤◌, ◌<◌, ◌^◌}
 use native.Mathlib.Nat.{add-zero}
@@ -28,7 +29,6 @@ use Rattle.reading.specs.State.{State, Result, goes}
 use Rattle.reading.specs.Notices.{Token, placed, quiet, after}
 use Rattle.reading.specs.Star.{interpret, column_by, paired, read_columns}
 use Rattle.state.specs.declared.Tally.{Tally}
-use Rattle.state.specs.declared.Step.TheVariants.{Goes}
 use Rattle.state.specs.Lay.{laid, behind}
 use Rattle.state.specs.Ready.{Ready}
 use Rattle.state.specs.View.{Landed, stopped, going, ending, state_of, landed, told}
@@ -215,7 +215,7 @@ module _ {text cells : List ℕ} {number offset : ℕ} {parts₀ out₀ : List �
     }
 
   pub line_past : length text < from
-      → told (Goes t) cells parts out ≡ landed (goes (columns_of text cells number offset (state_of cells parts₀ tally))) out₀ tally.at
+      → told (Ok t) cells parts out ≡ landed (goes (columns_of text cells number offset (state_of cells parts₀ tally))) out₀ tally.at
   unfolding laid behind
   line_past h = sym (inv.same
       ∙ ap (λ (ts : List (List ℕ)). landed (goes (read_columns (paths_of text cells) number i (row_of (drop i cells)) (placed (offset + from) (filled (length cells - i) ts)) (state_of cells parts t))) out t.at)
@@ -224,7 +224,7 @@ module _ {text cells : List ℕ} {number offset : ℕ} {parts₀ out₀ : List �
       (stars_quiet (paths_of text cells) number i (row_of (drop i cells)) (offset + from) (length cells - i) (state_of cells parts t)))
 
   pub row_past : length cells ≤ i
-      → told (Goes t) cells parts out ≡ landed (goes (columns_of text cells number offset (state_of cells parts₀ tally))) out₀ tally.at
+      → told (Ok t) cells parts out ≡ landed (goes (columns_of text cells number offset (state_of cells parts₀ tally))) out₀ tally.at
   unfolding laid behind read_columns
   row_past h = sym (inv.same
       ∙ ap (λ (row : List Spine). landed (goes (read_columns (paths_of text cells) number i row (placed (offset + from) (filled (length cells - i) (pieces 9 from text))) (state_of cells parts t))) out t.at)

@@ -18,14 +18,14 @@ use Rattle.reading.specs.State.{Result, goes, with_row}
 use Rattle.reading.specs.Notices.{Token, placed}
 use Rattle.reading.specs.Star.{read_columns, to_row, read_star}
 use Rattle.state.specs.declared.Tally.{Tally}
-use Rattle.state.specs.declared.Step.{Step as StepTold}
-use Rattle.state.specs.declared.Step.TheVariants.{Goes}
+use Rattle.refusal.specs.declared.Refusal.{Refusal}
+use Rattle.std.specs.Prelude.{Ok, Result as Answered}
 use Rattle.state.specs.View.{Landed, stopped, going, ending, state_of, landed, told, told_row}
 use Rattle.stars.specs.Columns.{filled, columns_of}
 use Rattle.stars.specs.Next.{stepped}
 use Rattle.stars.proofs.LoopLaws.{path_filled}
 
-pub answer_as : {s x : StepRow} (t : Tally) (k : ℕ) {r : StepTold} → s ≡ x → r ≡ stepped x t k → r ≡ stepped s t k
+pub answer_as : {s x : StepRow} (t : Tally) (k : ℕ) {r : Answered Tally Refusal} → s ≡ x → r ≡ stepped x t k → r ≡ stepped s t k
 answer_as t k e h = h ∙ ap (λ (y : StepRow). stepped y t k) (sym e)
 
 placed_paths : (at : ℕ) (ts : List (List ℕ)) → map (λ (t : Token). path_token t.bytes) (placed at ts) ≡ map path_token ts
@@ -39,7 +39,7 @@ rowed row (stopped n l f) = stopped n l f
 rowed row (going st at out) = going (with_row st row) at out
 rowed row (ending st at out) = ending (with_row st row) at out
 
-by_step : (step : StepRow) (cells row' parts' out out' : List ℕ) (t : Tally) (r : Result) (number at : ℕ) → told (Goes t) cells parts' out' ≡ landed (goes r) out at
+by_step : (step : StepRow) (cells row' parts' out out' : List ℕ) (t : Tally) (r : Result) (number at : ℕ) → told (Ok t) cells parts' out' ≡ landed (goes r) out at
     → told_row (stepped step t number) row' parts' out' ≡ landed (to_row number r (outcome_of step row')) out at
 by_step (Next n) cells row' parts' out out' t r number at h = ap (rowed (row_of (take n row'))) h
 by_step (Mixed c) cells row' parts' out out' t r number at h = refl
@@ -50,8 +50,8 @@ module _ (text row row' parts parts' out out' : List ℕ) (tally t : Tally) (num
   abbrev cells : List ℕ
   cells = take tally.active row
 
-  pub star_told : (step : StepRow) {r : StepTold}
-      → (told (Goes t) cells parts' out' ≡ landed (goes (columns_of text cells number offset (state_of cells parts tally))) out tally.at) × (length cells ≡ tally.active)
+  pub star_told : (step : StepRow) {r : Answered Tally Refusal}
+      → (told (Ok t) cells parts' out' ≡ landed (goes (columns_of text cells number offset (state_of cells parts tally))) out tally.at) × (length cells ≡ tally.active)
       → tally.active ≤ 256
       → outcome_of step row' ≡ step_row (row_of (take (min tally.active 256) row)) (record_tokens (min tally.active 256) text)
       → r ≡ stepped step t number
@@ -65,7 +65,7 @@ module _ (text row row' parts parts' out out' : List ℕ) (tally t : Tally) (num
       = s ∙ ap (λ (k : ℕ). step_row (row_of (take k row)) (record_tokens k text)) m
       ∙ ap (λ (k : ℕ). step_row (row_of cells) (record_tokens k text)) l
       ∙ ap (step_row (row_of cells)) (sym (path_filled (length cells) (tokens_of text))) in
-      ap (λ (x : StepTold). told_row x row' parts' out') e
+      ap (λ (x : Answered Tally Refusal). told_row x row' parts' out') e
       ∙ by_step step cells row' parts' out out' t result number tally.at w.0
       ∙ ap (λ (o : Outcome). landed (to_row number result o) out tally.at) next
       ∙ ap (λ (ps : List PathToken). landed (to_row number (read_columns ps number 0 (row_of cells) (placed offset (filled (length cells) (tokens_of text))) (state_of cells parts tally))

@@ -1,5 +1,5 @@
 -- A star record's tokens for as many columns as there are spines, and what the code makes of a column.
-use Rattle.std.specs.Prelude.{◌≡◌, ℕ, ◌+◌, ◌-◌, ◌≤◌, ◌<◌, ◌^◌, cond, List, ◌++◌, map, eqb, length, take, replicate}
+use Rattle.std.specs.Prelude.{◌≡◌, ℕ, ◌+◌, ◌-◌, ◌≤◌, ◌<◌, ◌^◌, cond, List, ◌++◌, map, eqb, length, take, replicate, Ok}
 use Rattle.slices.specs.Ascii.{ascii}
 use Rattle.state.specs.Counts.{Same}
 use Rattle.lines.specs.Tokens.{tokens_of}
@@ -12,7 +12,6 @@ use Rattle.reading.specs.State.{State, Result, goes}
 use Rattle.reading.specs.Notices.{Token, placed}
 use Rattle.reading.specs.Star.{read_columns}
 use Rattle.state.specs.declared.Tally.{Tally}
-use Rattle.state.specs.declared.Step.TheVariants.{Goes}
 use Rattle.state.specs.View.{state_of, landed, told}
 
 -- document 01, repair: a `*` record that is too short is "filled with `*`", one that is too long cut
@@ -49,7 +48,7 @@ tempoed _ t = t
 
 -- from parts, buffer and counts to others the code has done what a piece of the reading does, whatever the row
 pub record Comes (f : State → Result) (parts out : List ℕ) (t : Tally) (parts' out' : List ℕ) (r : Tally) : Type 0 where
-  pub same : (cells : List ℕ) → told (Goes r) cells parts' out' ≡ landed (goes (f (state_of cells parts t))) out t.at
+  pub same : (cells : List ℕ) → told (Ok r) cells parts' out' ≡ landed (goes (f (state_of cells parts t))) out t.at
   pub held : Same t r
 
 -- what keeps the numbers of a column small

@@ -16,15 +16,15 @@ ghost use Rattle.reading.specs.Notices.{placed};
 ghost use Rattle.reading.specs.Star.{interpret, column_by, read_star};
 ghost use Rattle.state.specs.Parts.{parts_of};
 ghost use Rattle.state.specs.View.{state_of, landed, told, told_row};
-ghost use Rattle.state.specs.declared.Step.TheVariants.{Goes};
 ghost use Rattle.state.specs.Ready.{Ready};
 ghost use Rattle.stars.specs.Columns.{filled, token_of, columns_of, with_first, tempoed, Comes, Fit};
 ghost use Rattle.stars.specs.Next.{stepped};
 
 use interpretation::Interpretation;
 use paths::PathToken;
+use refusal::Refusal;
 use sheet::Span;
-use state::{Step, Tally};
+use state::Tally;
 
 // The counts with a tempo, if it is the first.
 fn with_first(tally: Tally, bpm: u16) -> Tally
@@ -186,7 +186,7 @@ pub fn read_columns(
     out: &mut [u8],
 ) -> Tally
     requires { Ready row.now parts.old tally × ((offset + length line.now < 2 ^ 27) × (number < 2 ^ 27)) }
-    ensures { told (Goes result) row.now parts.new out.new ≡ landed (goes (columns_of line.now row.now number offset (state_of row.now parts.old tally))) out.old tally.at }
+    ensures { told (Ok result) row.now parts.new out.new ≡ landed (goes (columns_of line.now row.now number offset (state_of row.now parts.old tally))) out.old tally.at }
 {
     let mut t = tally;
     let mut left = false;
@@ -231,32 +231,29 @@ fn columns_of(
     out: &mut [u8],
 ) -> Tally
     requires { (length row.now ≡ 512) × ((active ≤ 256) × (Ready (take active row.now) parts.old tally × ((offset + length line.now < 2 ^ 27) × (number < 2 ^ 27)))) }
-    ensures { (told (Goes result) (take active row.now) parts.new out.new ≡ landed (goes (columns_of line.now (take active row.now) number offset (state_of (take active row.now) parts.old tally))) out.old tally.at) × (length (take active row.now) ≡ active) }
+    ensures { (told (Ok result) (take active row.now) parts.new out.new ≡ landed (goes (columns_of line.now (take active row.now) number offset (state_of (take active row.now) parts.old tally))) out.old tally.at) × (length (take active row.now) ≡ active) }
 {
     read_columns(line, &row[..active], parts, tally, number, offset, out)
 }
 
 // The answer: questions 17, 8 and 9, or the next row's width.
-fn answer(step: voices::Step, tally: Tally, number: u32) -> Step
+fn answer(step: voices::Step, tally: Tally, number: u32) -> Result<Tally, Refusal>
     ensures { result ≡ stepped step tally number }
 {
     match step {
-        voices::Step::Next(n) => Step::Goes(state::with_active(tally, n)),
-        voices::Step::Mixed(column) => Step::Refused {
-            number: 17,
-            line: number as usize,
-            figure: column,
-        },
-        voices::Step::Voiceless(p) => Step::Refused {
-            number: 8,
-            line: number as usize,
-            figure: p as usize,
-        },
-        voices::Step::Wide(n) => Step::Refused {
-            number: 9,
-            line: number as usize,
-            figure: n,
-        },
+        voices::Step::Next(n) => Ok(state::with_active(tally, n)),
+        voices::Step::Mixed(column) => Err(Refusal::MixedJoin {
+            line: number,
+            column,
+        }),
+        voices::Step::Voiceless(p) => Err(Refusal::StaffFull {
+            line: number,
+            part: p as usize,
+        }),
+        voices::Step::Wide(n) => Err(Refusal::ManySpines {
+            line: number,
+            spines: n,
+        }),
     }
 }
 
@@ -271,7 +268,7 @@ pub fn read_star(
     number: u32,
     offset: u32,
     out: &mut [u8],
-) -> Step
+) -> Result<Tally, Refusal>
     requires { (tally.active ≤ 256) × (Ready (take tally.active row.old) parts.old tally × ((offset + length line.now < 2 ^ 27) × (number < 2 ^ 27))) }
     ensures { told_row result row.new parts.new out.new ≡ landed (read_star number (placed offset (filled (length (take tally.active row.old)) (tokens_of line.now))) (state_of (take tally.active row.old) parts.old tally)) out.old tally.at }
 {

@@ -1,10 +1,12 @@
 -- The state that cells and counts say; a line's outcome with the buffer.
-use Rattle.std.specs.Prelude.{ℕ, List, take}
+use Rattle.std.specs.Prelude.{ℕ, List, take, Result, Ok, Err}
 use Rattle.spines.specs.Cells.{row_of}
+use Rattle.refusal.specs.Numbers.{number_of, line_of, figure_of}
+use Rattle.refusal.specs.declared.Refusal.{Refusal}
 use Rattle.reading.specs.State.{State, Step, refused, goes, ends}
 use Rattle.state.specs.declared.Tally.{Tally}
-use Rattle.state.specs.declared.Step.{Step as StepTold}
-use Rattle.state.specs.declared.Step.TheVariants.{Refused, Goes, Ends}
+use Rattle.state.specs.declared.Flow.{Flow}
+use Rattle.state.specs.declared.Flow.TheVariants.{Goes, Ends}
 use Rattle.state.specs.Parts.{parts_of}
 use Rattle.state.specs.Lay.{laid, behind}
 
@@ -34,18 +36,22 @@ landed (refused n l f) out at = stopped n l f
 landed (goes r) out at = going r.state (behind at r.records) (laid out at r.records)
 landed (ends r) out at = ending r.state (behind at r.records) (laid out at r.records)
 
--- what the code's step says, with the cells and the buffer that it leaves
-abbrev pub told : StepTold → List ℕ → List ℕ → List ℕ → Landed
-told (Refused n l f) cells parts out = stopped n l f
-told (Goes t) cells parts out = going (state_of cells parts t) t.at out
-told (Ends t) cells parts out = ending (state_of cells parts t) t.at out
+-- what the code's answer says, with the cells and the buffer that it leaves
+abbrev pub told : Result Tally Refusal → List ℕ → List ℕ → List ℕ → Landed
+told (Ok t) cells parts out = going (state_of cells parts t) t.at out
+told (Err r) cells parts out = stopped (number_of r) (line_of r) (figure_of r)
 
 -- how many spines are active then
-abbrev pub active_in : StepTold → ℕ
-active_in (Refused n l f) = 0
-active_in (Goes t) = t.active
-active_in (Ends t) = t.active
+abbrev pub active_in : Result Tally Refusal → ℕ
+active_in (Ok t) = t.active
+active_in (Err r) = 0
 
 -- the row is the first active cells of a longer array
-abbrev pub told_row : StepTold → List ℕ → List ℕ → List ℕ → Landed
+abbrev pub told_row : Result Tally Refusal → List ℕ → List ℕ → List ℕ → Landed
 told_row s row parts out = told s (take (active_in s) row) parts out
+
+-- the same of an answer with which the reading may end
+abbrev pub told_flow : Result Flow Refusal → List ℕ → List ℕ → List ℕ → Landed
+told_flow (Ok (Goes t)) row parts out = going (state_of (take t.active row) parts t) t.at out
+told_flow (Ok (Ends t)) row parts out = ending (state_of (take t.active row) parts t) t.at out
+told_flow (Err r) row parts out = stopped (number_of r) (line_of r) (figure_of r)

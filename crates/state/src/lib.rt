@@ -22,14 +22,9 @@ pub struct Tally {
     pub at: usize,
 }
 
-// What a line comes to: a refusal with number, line and figure, or counts with which the reading goes on or ends.
+// What becomes of the reading behind a line that is not refused: it goes on, or ends, with these counts.
 #[derive(Clone, Copy)]
-pub enum Step {
-    Refused {
-        number: usize,
-        line: usize,
-        figure: usize,
-    },
+pub enum Flow {
     Goes(Tally),
     Ends(Tally),
 }

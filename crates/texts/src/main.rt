@@ -5,8 +5,6 @@
 // once, so many behind them, and how often these come.
 ghost use Rattle.std.specs.Prelude.{◌≤◌, length};
 
-use reader::Answer;
-
 fn print(bytes: &[u8]) {
     io::write_all(1, bytes);
 }
@@ -32,16 +30,12 @@ fn number_of(digits: &[u8]) -> usize
 fn answer(text: &[u8]) {
     let mut out = [0u8; 65536];
     match reader::read(text, &mut out) {
-        Answer::Refused {
-            number,
-            line,
-            figure,
-        } => {
-            print_number(number, b" ");
-            print_number(line, b" ");
-            print_number(figure, b"\n");
+        Err(refusal) => {
+            print_number(refusal.number() as usize, b" ");
+            print_number(refusal.line() as usize, b" ");
+            print_number(refusal.figure(), b"\n");
         }
-        Answer::Accepted(long) => {
+        Ok(long) => {
             print_number(long, b"\n");
             print(slices::piece(&out[..], 0, long));
             print(b"\n");

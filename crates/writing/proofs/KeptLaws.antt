@@ -1,4 +1,5 @@
 -- What is kept of a notice is what the reading keeps of it.
+use Rattle.std.specs.Prelude.{Ok}
 use mathlib.Core.Path.{◌≡◌, refl, ap, ◌∙◌}
 use Prim.Native.Nat.{ℕ, ◌+◌}
 use mathlib.Core.Bool.{Bool, true, false, cond}
@@ -12,7 +13,6 @@ use Rattle.sheet.specs.declared.Span.{Span}
 use Rattle.reading.specs.State.{State, goes, with_notices}
 use Rattle.reading.specs.Notices.{quiet, keep, notify}
 use Rattle.state.specs.declared.Tally.{Tally}
-use Rattle.state.specs.declared.Step.TheVariants.{Goes}
 use Rattle.state.specs.Lay.{laid, behind}
 use Rattle.state.specs.View.{state_of, going, landed, told}
 use Rattle.writing.specs.Kept.{notice_of, counted, kept_records, after_kept}
@@ -64,7 +64,7 @@ module _ (cells parts : List ℕ) (t : Tally) (n : Notice) (bytes : List ℕ) wh
       go false = refl
 
   pub kept_told : (out : List ℕ)
-      → told (Goes (after_kept t n bytes)) cells parts (laid out t.at (kept_records t n bytes)) ≡ landed (goes (keep n bytes (state_of cells parts t))) out t.at
+      → told (Ok (after_kept t n bytes)) cells parts (laid out t.at (kept_records t n bytes)) ≡ landed (goes (keep n bytes (state_of cells parts t))) out t.at
   kept_told out =
       ap (λ (s : State). going s (after_kept t n bytes).at (laid out t.at (kept_records t n bytes))) kept_state
       ∙ ap (λ (k : ℕ). going (keep n bytes (state_of cells parts t)).state k (laid out t.at (kept_records t n bytes))) (kept_at t n bytes)
@@ -72,7 +72,7 @@ module _ (cells parts : List ℕ) (t : Tally) (n : Notice) (bytes : List ℕ) wh
 
 -- the same for a notice on a line and a column
 pub notify_told : (cells parts : List ℕ) (t : Tally) (number k column : ℕ) (value : Span) (out : List ℕ)
-    → told (Goes (after_kept t (notice_of number k column value) [])) cells parts (laid out t.at (kept_records t (notice_of number k column value) []))
+    → told (Ok (after_kept t (notice_of number k column value) [])) cells parts (laid out t.at (kept_records t (notice_of number k column value) []))
     ≡ landed (goes (notify number k column value (state_of cells parts t))) out t.at
 unfolding notify
 notify_told cells parts t number k column value out = kept_told cells parts t (notice_of number k column value) [] out

@@ -1,83 +1,83 @@
 use Prim.Native.Nat.{ℕ}
 use native.Mathlib.Omega.{arith}
+use Rattle.std.proofs.lemmas.Result.{err_from_is_err_and}
+use Rattle.refusal.specs.declared.Refusal.TheVariants.{TooLong, NotUtf8}
 use Rattle.reader.proofs.AnswerLaws.{answers_refused, answers_short, answers_written, too_long, not_utf8_at, utf8_whole, measured_long, told_written, told_refused}
 use Rattle.reader.proofs.read.Goals as goal
 
-pub returns-then-long : goal.returns-then-long
-returns-then-long c =
-    let r = answers_refused c.args.text.now c.args.out.now 1 0 _ (too_long c.args.text.now c.if-long.true) in
+pub returns-then-text-gt-MOST_BYTES : goal.returns-then-text-gt-MOST_BYTES
+returns-then-text-gt-MOST_BYTES c =
+    let r = answers_refused c.args.text.now c.args.out.now (TooLong _) (too_long c.args.text.now c.if-text-gt-MOST_BYTES.true) in
     record {
       answer = r.0;
-      numbered = r.1.0;
-      buffer = r.1.1.0;
-      played = r.1.1.1.0;
-      needed = r.1.1.1.1.0;
-      stopped = r.1.1.1.1.1.0;
-      joined = r.1.1.1.1.1.1.0;
-      traced = r.1.1.1.1.1.1.1;
+      buffer = r.1.0;
+      fits = λ n e. (r.1.1.0 n e).0;
+      played = λ n e. (r.1.1.0 n e).1;
+      needed = r.1.1.1.0;
+      stopped = r.1.1.1.1.0;
+      joined = r.1.1.1.1.1.0;
+      traced = r.1.1.1.1.1.1;
     }
 
-pub returns-then-broken : goal.returns-then-broken
-returns-then-broken c =
-    let r = answers_refused c.args.text.now c.args.out.now 2 0 _ (not_utf8_at c.args.text.now c.if-long.false c.if-broken.true c.utf8_length-good.ensures.0) in
+pub returns-then-good-text : goal.returns-then-good-text
+returns-then-good-text c =
+    let r = answers_refused c.args.text.now c.args.out.now (NotUtf8 _) (not_utf8_at c.args.text.now c.if-text-gt-MOST_BYTES.false c.if-good-text.true c.utf8_length-good.ensures.0) in
     record {
       answer = r.0;
-      numbered = r.1.0;
-      buffer = r.1.1.0;
-      played = r.1.1.1.0;
-      needed = r.1.1.1.1.0;
-      stopped = r.1.1.1.1.1.0;
-      joined = r.1.1.1.1.1.1.0;
-      traced = r.1.1.1.1.1.1.1;
+      buffer = r.1.0;
+      fits = λ n e. (r.1.1.0 n e).0;
+      played = λ n e. (r.1.1.0 n e).1;
+      needed = r.1.1.1.0;
+      stopped = r.1.1.1.1.0;
+      joined = r.1.1.1.1.1.0;
+      traced = r.1.1.1.1.1.1;
     }
 
-pub overflow_add-at : goal.overflow_add-at
-overflow_add-at c = omega (arith, measured_long (told_written c.args.text.now c.measure.result c.measure.ensures c.in-Written.is))
+pub returns-in_err-written : goal.returns-in_err-written
+returns-in_err-written c =
+    let p = err_from_is_err_and c.from_residual.result c.from_residual.ensures.1 in
+    let r = answers_refused c.args.text.now c.args.out.now _ (told_refused c.args.text.now c.measure.result c.measure.ensures c.in_err-written.was) in
+    rw (p.1, p.2) (record {
+      answer = r.0;
+      buffer = r.1.0;
+      fits = λ n e. (r.1.1.0 n e).0;
+      played = λ n e. (r.1.1.0 n e).1;
+      needed = r.1.1.1.0;
+      stopped = r.1.1.1.1.0;
+      joined = r.1.1.1.1.1.0;
+      traced = r.1.1.1.1.1.1;
+    })
 
-pub overflow_add-result : goal.overflow_add-result
-overflow_add-result c = omega (arith, measured_long (told_written c.args.text.now c.measure.result c.measure.ensures c.in-Written.is))
+pub overflow_add-needed : goal.overflow_add-needed
+overflow_add-needed c = omega (arith, measured_long (told_written c.args.text.now c.measure.result c.measure.ensures c.in_ok-written.was))
 
-pub returns-then-out-at : goal.returns-then-out-at
-returns-then-out-at c =
-    let r = answers_short c.args.out.now (told_written c.args.text.now c.measure.result c.measure.ensures c.in-Written.is) c.if-out-at.true in
+pub returns-then-out-needed : goal.returns-then-out-needed
+returns-then-out-needed c =
+    let r = answers_short c.args.out.now (told_written c.args.text.now c.measure.result c.measure.ensures c.in_ok-written.was) c.if-out-needed.true in
     record {
       answer = r.0;
-      numbered = r.1.0;
-      buffer = r.1.1.0;
-      played = r.1.1.1.0;
-      needed = r.1.1.1.1.0;
-      stopped = r.1.1.1.1.1.0;
-      joined = r.1.1.1.1.1.1.0;
-      traced = r.1.1.1.1.1.1.1;
+      buffer = r.1.0;
+      fits = λ n e. (r.1.1.0 n e).0;
+      played = λ n e. (r.1.1.0 n e).1;
+      needed = r.1.1.1.0;
+      stopped = r.1.1.1.1.0;
+      joined = r.1.1.1.1.1.0;
+      traced = r.1.1.1.1.1.1;
     }
 
 pub write_sheet-requires : goal.write_sheet-requires
-write_sheet-requires c = (c.if-long.false, (utf8_whole c.args.text.now c.utf8_length-good.ensures c.if-broken.false, (told_written c.args.text.now c.measure.result c.measure.ensures c.in-Written.is, c.if-out-at.false)))
+write_sheet-requires c = (c.if-text-gt-MOST_BYTES.false, (utf8_whole c.args.text.now c.utf8_length-good.ensures c.if-good-text.false, (told_written c.args.text.now c.measure.result c.measure.ensures c.in_ok-written.was, c.if-out-needed.false)))
 
-pub returns-in-Refused : goal.returns-in-Refused
-returns-in-Refused c =
-    let r = answers_refused c.args.text.now c.args.out.now _ _ _ (told_refused c.args.text.now c.measure.result c.measure.ensures c.in-Refused.is) in
+pub returns : goal.returns
+returns c =
+    let r = answers_written {text = c.args.text.now} c.args.out.now (λ (i : ℕ). omega (arith, c.type_inv.text i)) (told_written c.args.text.now c.measure.result c.measure.ensures c.in_ok-written.was) c.if-out-needed.false c.write_sheet.ensures in
     record {
       answer = r.0;
-      numbered = r.1.0;
-      buffer = r.1.1.0;
-      played = r.1.1.1.0;
-      needed = r.1.1.1.1.0;
-      stopped = r.1.1.1.1.1.0;
-      joined = r.1.1.1.1.1.1.0;
-      traced = r.1.1.1.1.1.1.1;
-    }
-
-pub returns-else-out-at : goal.returns-else-out-at
-returns-else-out-at c =
-    let r = answers_written {text = c.args.text.now} c.args.out.now (λ (i : ℕ). omega (arith, c.type_inv.text i)) (told_written c.args.text.now c.measure.result c.measure.ensures c.in-Written.is) c.if-out-at.false c.write_sheet.ensures in
-    record {
-      answer = r.0;
-      numbered = r.1.0;
-      buffer = r.1.1.0;
-      played = r.1.1.1.0;
-      needed = r.1.1.1.1.0;
-      stopped = r.1.1.1.1.1.0;
-      joined = r.1.1.1.1.1.1.0;
-      traced = r.1.1.1.1.1.1.1;
+      buffer = r.1.0;
+      fits = λ n e. (r.1.1.0 n e).0;
+      played = λ n e. (r.1.1.0 n e).1;
+      needed = r.1.1.1.0;
+      stopped = r.1.1.1.1.0;
+      joined = r.1.1.1.1.1.0;
+      traced = r.1.1.1.1.1.1;
     }

@@ -1,4 +1,5 @@
 use lib.ListN.{take}
+use Rattle.std.proofs.lemmas.Result.{err_from_is_err_and}
 use Rattle.records.proofs.RecordLaws.{behind_header, at_header}
 use Rattle.records.proofs.on_record.Goals as goal
 
@@ -6,4 +7,12 @@ pub returns-then-begun : goal.returns-then-begun
 returns-then-begun c = behind_header c.args.begun _ c.args.line.now c.args.out.now (take c.args.tally.active c.args.row.now) c.args.parts.now c.args.tally c.args.number c.args.offset c.if-begun.true c.read_record.ensures
 
 pub returns : goal.returns
-returns c = at_header c.args.begun _ c.args.line.now c.args.out.now (take c.args.tally.active c.args.row.now) c.args.parts.now c.args.tally c.args.number c.args.offset c.if-begun.false (c.read_header.ensures (take c.args.tally.active c.args.row.now))
+returns c =
+    let cells = take c.args.tally.active c.args.row.now in
+    at_header c.args.begun _ c.args.line.now c.args.out.now cells c.args.parts.now c.args.tally c.args.number c.args.offset c.if-begun.false (rw c.in_ok-read.was at c.read_header.ensures cells)
+
+pub returns-in_err-read : goal.returns-in_err-read
+returns-in_err-read c =
+    let cells = take c.args.tally.active c.args.row.now in
+    let p = err_from_is_err_and c.from_residual.result c.from_residual.ensures.1 in
+    rw (p.1, p.2) (at_header c.args.begun _ c.args.line.now c.args.out.now cells c.args.parts.now c.args.tally c.args.number c.args.offset c.if-begun.false (rw c.in_err-read.was at c.read_header.ensures cells))

@@ -1,5 +1,6 @@
+use Rattle.std.specs.Prelude.{Ok}
 use mathlib.Core.Path.{sym, ◌∙◌}
-use Rattle.records.proofs.KindLaws.{by_empty, by_reference, by_comment, by_star, by_bar, by_data}
+use Rattle.records.proofs.KindLaws.{by_none, by_star, by_bar, by_data}
 use Rattle.records.proofs.read_even.Goals as goal
 
 pub bar_of-requires : goal.bar_of-requires
@@ -9,19 +10,13 @@ pub data_of-requires : goal.data_of-requires
 data_of-requires c = (c.requires.0.under, ((c.requires.0.short, c.requires.0.numbered), (sym c.requires.1.0 ∙ c.in-Data.is, c.requires.1.1)))
 
 pub returns-in-Empty : goal.returns-in-Empty
-returns-in-Empty c = by_empty c.requires.0.under c.args.line.now c.requires.1.1 c.args.out.now c.args.number c.args.offset c.args.kind c.in-Empty.is
-
-pub returns-in-Reference : goal.returns-in-Reference
-returns-in-Reference c = by_reference c.requires.0.under c.args.line.now c.requires.1.1 c.args.out.now c.args.number c.args.offset c.args.kind c.in-Reference.is
-
-pub returns-in-Comment : goal.returns-in-Comment
-returns-in-Comment c = by_comment c.requires.0.under c.args.line.now c.requires.1.1 c.args.out.now c.args.number c.args.offset c.args.kind c.in-Comment.is
+returns-in-Empty c = by_none c.requires.0.under c.args.line.now c.requires.1.1 c.args.out.now c.args.number c.args.offset c.args.kind c.in-Empty.is
 
 pub returns-in-Star : goal.returns-in-Star
 returns-in-Star c = by_star c.requires.0.under c.args.line.now c.requires.1.1 c.read_star.result _ _ _ c.args.out.now c.args.number c.args.offset c.args.kind c.requires.1.0 c.in-Star.is c.read_star.ensures
 
 pub returns-in-Bar : goal.returns-in-Bar
-returns-in-Bar c = by_bar c.requires.0.under c.args.line.now c.requires.1.1 c.bar_of.result _ _ _ c.args.out.now c.args.number c.args.offset c.args.kind c.requires.1.0 c.in-Bar.is (c.bar_of.ensures c.args.offset)
+returns-in-Bar c = by_bar c.requires.0.under c.args.line.now c.requires.1.1 (Ok c.bar_of.result) _ _ _ c.args.out.now c.args.number c.args.offset c.args.kind c.requires.1.0 c.in-Bar.is (c.bar_of.ensures c.args.offset)
 
 pub returns-in-Data : goal.returns-in-Data
 returns-in-Data c = by_data c.requires.0.under c.args.line.now c.requires.1.1 c.data_of.result _ _ _ c.args.out.now c.args.number c.args.offset c.args.kind c.requires.1.0 c.in-Data.is c.data_of.ensures

@@ -1,4 +1,5 @@
 use mathlib.Core.Path.{refl}
+use Rattle.std.proofs.lemmas.Result.{err_from_is_err_and}
 use Rattle.records.proofs.RecordLaws.{here_same, even_same, none_told, uneven_told, mixed_told, even_told}
 use Rattle.records.proofs.read_record.Goals as goal
 
@@ -14,5 +15,10 @@ returns-in-Uneven c = uneven_told c.requires.0.under c.args.line.now c.args.out.
 pub returns-in-Mixed : goal.returns-in-Mixed
 returns-in-Mixed c = mixed_told c.requires.0.under c.args.line.now c.args.out.now c.args.number c.args.offset c.if-active-eq0.false c.repair_record.ensures c.in-Mixed.is
 
-pub returns-in-Even : goal.returns-in-Even
-returns-in-Even c = even_told c.requires.0.under c.args.line.now c.args.out.now c.args.number c.args.offset c.if-active-eq0.false c.repair_record.ensures c.notice_repair-noticed.result _ _ c.in-Even.is c.requires.1 c.notice_repair-noticed.ensures.told c.notice_repair-noticed.ensures.same c.read_even.ensures
+pub returns-in_ok-read-in-Even : goal.returns-in_ok-read-in-Even
+returns-in_ok-read-in-Even c = even_told c.requires.0.under c.args.line.now c.args.out.now c.args.number c.args.offset c.if-active-eq0.false c.repair_record.ensures c.notice_repair-noticed.result _ _ c.in-Even.is c.requires.1 c.notice_repair-noticed.ensures.told c.notice_repair-noticed.ensures.same (rw c.in_ok-read-in-Even.was at c.read_even.ensures)
+
+pub returns-in_err-read-in-Even : goal.returns-in_err-read-in-Even
+returns-in_err-read-in-Even c =
+    let p = err_from_is_err_and c.from_residual.result c.from_residual.ensures.1 in
+    rw (p.1, p.2) (even_told c.requires.0.under c.args.line.now c.args.out.now c.args.number c.args.offset c.if-active-eq0.false c.repair_record.ensures c.notice_repair-noticed.result _ _ c.in-Even.is c.requires.1 c.notice_repair-noticed.ensures.told c.notice_repair-noticed.ensures.same (rw c.in_err-read-in-Even.was at c.read_even.ensures))

@@ -1,59 +1,41 @@
 -- The reader's promises, and the list by the case that the answer is.
-use Rattle.staff.proofs.FillingLaws.{within_text, explains_8, explains_other, explains_accepted}
+use Rattle.staff.proofs.FillingLaws.{within_text, explains_accepted, explains_refused}
 use Rattle.staff.proofs.read_with_lines.Goals as goal
 
-pub filling-lines-requires : goal.filling-lines-requires
-filling-lines-requires c =
+pub returns-in-Ok : goal.returns-in-Ok
+returns-in-Ok c =
     let e = c.read-answer.ensures in
-    within_text c.args.text.now c.args.out.now _ (e.answer, (e.numbered, (e.buffer, (e.played, (e.needed, (e.stopped, (e.joined, e.traced))))))) c.in-Refused.is c.if-full.true
-
-pub returns-then-full : goal.returns-then-full
-returns-then-full c =
-    let e = c.read-answer.ensures in
-    let r = explains_8 c.args.text.now c.args.out.now _ (e.answer, (e.numbered, (e.buffer, (e.played, (e.needed, (e.stopped, (e.joined, e.traced))))))) c.in-Refused.is c.if-full.true c.filling-lines.ensures in
+    let r = explains_accepted c.args.text.now c.args.out.now _ (e.answer, (e.buffer, (e.played, (e.needed, (e.stopped, (e.joined, e.traced)))))) c.in-Ok.is c.nobody-lines.ensures in
     record {
-      answer = r.0;
-      numbered = r.1.0;
-      buffer = r.1.1.0;
-      played = r.1.1.1.0;
-      needed = r.1.1.1.1.0;
-      stopped = r.1.1.1.1.1.0;
-      joined = r.1.1.1.1.1.1.0;
-      traced = r.1.1.1.1.1.1.1.0;
-      lines = r.1.1.1.1.1.1.1.1.0;
-      filled = r.1.1.1.1.1.1.1.1.1;
+      answer = r.0.0;
+      buffer = r.0.1.0;
+      played = r.0.1.1.0;
+      needed = r.0.1.1.1.0;
+      stopped = r.0.1.1.1.1.0;
+      joined = r.0.1.1.1.1.1.0;
+      traced = r.0.1.1.1.1.1.1;
+      lines = r.1.0;
+      filled = r.1.1;
     }
 
-pub returns-else-full : goal.returns-else-full
-returns-else-full c =
+pub lines_behind-lines-requires : goal.lines_behind-lines-requires
+lines_behind-lines-requires c =
     let e = c.read-answer.ensures in
-    let r = explains_other c.args.text.now c.args.out.now _ (e.answer, (e.numbered, (e.buffer, (e.played, (e.needed, (e.stopped, (e.joined, e.traced))))))) c.in-Refused.is c.if-full.false c.nobody-lines.ensures in
-    record {
-      answer = r.0;
-      numbered = r.1.0;
-      buffer = r.1.1.0;
-      played = r.1.1.1.0;
-      needed = r.1.1.1.1.0;
-      stopped = r.1.1.1.1.1.0;
-      joined = r.1.1.1.1.1.1.0;
-      traced = r.1.1.1.1.1.1.1.0;
-      lines = r.1.1.1.1.1.1.1.1.0;
-      filled = r.1.1.1.1.1.1.1.1.1;
-    }
+    within_text c.args.text.now c.args.out.now _ (e.answer, (e.buffer, (e.played, (e.needed, (e.stopped, (e.joined, e.traced)))))) c.in-Err.is
 
-pub returns-in-Accepted : goal.returns-in-Accepted
-returns-in-Accepted c =
+pub returns-in-Err : goal.returns-in-Err
+returns-in-Err c =
     let e = c.read-answer.ensures in
-    let r = explains_accepted c.args.text.now c.args.out.now _ (e.answer, (e.numbered, (e.buffer, (e.played, (e.needed, (e.stopped, (e.joined, e.traced))))))) c.in-Accepted.is c.nobody-lines-in-Accepted.ensures in
+    let l = c.lines_behind-lines.ensures in
+    let r = explains_refused c.args.text.now c.args.out.now _ (e.answer, (e.buffer, (e.played, (e.needed, (e.stopped, (e.joined, e.traced)))))) c.in-Err.is l.full l.other l.kept in
     record {
-      answer = r.0;
-      numbered = r.1.0;
-      buffer = r.1.1.0;
-      played = r.1.1.1.0;
-      needed = r.1.1.1.1.0;
-      stopped = r.1.1.1.1.1.0;
-      joined = r.1.1.1.1.1.1.0;
-      traced = r.1.1.1.1.1.1.1.0;
-      lines = r.1.1.1.1.1.1.1.1.0;
-      filled = r.1.1.1.1.1.1.1.1.1;
+      answer = r.0.0;
+      buffer = r.0.1.0;
+      played = r.0.1.1.0;
+      needed = r.0.1.1.1.0;
+      stopped = r.0.1.1.1.1.0;
+      joined = r.0.1.1.1.1.1.0;
+      traced = r.0.1.1.1.1.1.1;
+      lines = r.1.0;
+      filled = r.1.1;
     }

@@ -6,34 +6,13 @@ use mathlib.Core.List.{List}
 use Rattle.slices.specs.Store.{stored}
 use Rattle.holders.specs.declared.Holder.{Holder}
 use Rattle.kern_ffi.specs.Answer.{entry_numbers}
-use Rattle.kern_ffi.proofs.AnswerLaws.{number_small, answers, refused_numbers, accepted_numbers}
+use Rattle.kern_ffi.proofs.AnswerLaws.{answers}
 use Rattle.kern_ffi.proofs.causes.kern_read_lines.Goals as goal
 
-pub overflow_cast-result : goal.overflow_cast-result
-overflow_cast-result c =
+pub returns : goal.returns
+returns c =
     let e = c.read_with_lines-explained.ensures in
-    omega (arith, number_small c.args.text.now c.args.out.now (λ (i : ℕ). omega (arith, c.type_inv.text i)) e.answer c.in-Refused.is)
-
-pub returns-in-Refused : goal.returns-in-Refused
-returns-in-Refused c =
-    let e = c.read_with_lines-explained.ensures in
-    let a = answers c.args.text.now c.args.out.now _ _ (λ (i : ℕ). omega (arith, c.type_inv.text i)) (refused_numbers _ _ e.answer c.in-Refused.is) c.put_three.ensures e.buffer (e.stopped, (e.joined, e.traced)) in
-    record {
-      number = a.0;
-      answer = a.1.0;
-      buffer = a.1.1.0;
-      played = a.1.1.1.0;
-      needed = a.1.1.1.1.0;
-      stopped = a.1.1.1.1.1.0;
-      joined = a.1.1.1.1.1.1.0;
-      traced = a.1.1.1.1.1.1.1;
-      lines = c.put_lines.ensures ∙ ap (λ (hs : List Holder). stored c.args.lines.now (entry_numbers hs)) e.lines.0;
-    }
-
-pub returns-in-Accepted : goal.returns-in-Accepted
-returns-in-Accepted c =
-    let e = c.read_with_lines-explained.ensures in
-    let a = answers c.args.text.now c.args.out.now _ _ (λ (i : ℕ). omega (arith, c.type_inv.text i)) (accepted_numbers _ _ e.answer c.in-Accepted.is) c.put_three-in-Accepted.ensures e.buffer (e.stopped, (e.joined, e.traced)) in
+    let a = answers c.args.text.now c.args.out.now _ _ (λ (i : ℕ). omega (arith, c.type_inv.text i)) e.answer c.put_answer.ensures.number c.put_answer.ensures.answer e.buffer (e.stopped, (e.joined, e.traced)) in
     record {
       number = a.0;
       answer = a.1.0;

@@ -1,0 +1,2 @@
+-- A refusal as three numbers.
+pub mod Numbers
