@@ -62,8 +62,8 @@ unfolding read_reference
 fine_reference k at line st l h g =
     let r = reference_of (drop 3 line) in
     by_key_lem r.key k (value_span (at + 3) r) (key_span (at + 3) r) st l
-    (span_fits (at + 3 + r.value_at) r.value_len (omega (arith, value_inside (drop 3 line), length-drop 3 line)) (omega (arith, value_inside (drop 3 line), length-drop 3 line)))
-    (span_fits (at + 3 + r.key_at) r.key_len (omega (arith, key_inside (drop 3 line), length-drop 3 line)) (omega (arith, key_inside (drop 3 line), length-drop 3 line)))
+    (span_fits (at + 3 + r.value_span.at) r.value_span.len (omega (arith, value_inside (drop 3 line), length-drop 3 line)) (omega (arith, value_inside (drop 3 line), length-drop 3 line)))
+    (span_fits (at + 3 + r.key_span.at) r.key_span.len (omega (arith, key_inside (drop 3 line), length-drop 3 line)) (omega (arith, key_inside (drop 3 line), length-drop 3 line)))
     g
 
 -- ---- the header

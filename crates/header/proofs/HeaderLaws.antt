@@ -38,15 +38,15 @@ module _ (s t : List ℕ) (r : Reference) (offset : ℕ) (cut : t ≡ drop 3 s) 
   short : length t ≤ length s
   short = omega (arith, ap length cut, length-drop 3 s)
 
-  pub value_low : offset + r.value_at + r.value_len < 2 ^ 27
-  value_low = let v : r.value_at + r.value_len ≤ length t = rw is (value_inside t) in omega (arith, short)
+  pub value_low : offset + r.value_span.at + r.value_span.len < 2 ^ 27
+  value_low = let v : r.value_span.at + r.value_span.len ≤ length t = rw is (value_inside t) in omega (arith, short)
 
-  pub key_low : offset + r.key_at + r.key_len < 2 ^ 27
-  key_low = let v : r.key_at + r.key_len ≤ length t = rw is (key_inside t) in omega (arith, short)
+  pub key_low : offset + r.key_span.at + r.key_span.len < 2 ^ 27
+  key_low = let v : r.key_span.at + r.key_span.len ≤ length t = rw is (key_inside t) in omega (arith, short)
 
 -- what it comes to, by its key
 module _ (s t : List ℕ) (r : Reference) (k offset : ℕ) (u : Tally) (cut : t ≡ drop 3 s) (is : r ≡ reference_of t) (value : Span)
-    (there : value ≡ span_of (offset + 3 + r.value_at) r.value_len) where
+    (there : value ≡ span_of (offset + 3 + r.value_span.at) r.value_span.len) where
   by_key_lem : (x : Key) → r.key ≡ x → (st : State) → read_reference k offset s st ≡ by_key x k value (key_span (offset + 3) r) st
   unfolding read_reference
   by_key_lem x e st =
@@ -70,7 +70,7 @@ module _ (s t : List ℕ) (r : Reference) (k offset : ℕ) (u : Tally) (cut : t 
     pub lyricist_told : r.key ≡ Lyricist → going (with_lyricist (state_of cells parts u) value) u.at out ≡ result
     lyricist_told e = silent (with_lyricist (state_of cells parts u) value) (by_key_lem Lyricist e (state_of cells parts u))
 
-    pub other_key_told : (name : Span) → name ≡ span_of (offset + 3 + r.key_at) r.key_len → r.key ≡ Other → (v : Tally) (last : List ℕ)
+    pub other_key_told : (name : Span) → name ≡ span_of (offset + 3 + r.key_span.at) r.key_span.len → r.key ≡ Other → (v : Tally) (last : List ℕ)
         → (last ≡ laid out u.at (kept_records u (record { number = 1; column = 0; line = k; value = value; key = name }) []))
         × (v ≡ after_kept u (record { number = 1; column = 0; line = k; value = value; key = name }) []) → told (Ok v) cells parts last ≡ result
     other_key_told name n e v last w =

@@ -28,7 +28,7 @@ pub fn read_reference(line: &[u8], number: u32, offset: u32, tally: Tally, out: 
 {
     let r = reference::reference_of(interpretation::tail(line, 3));
     let from = offset + 3;
-    let value = sheet::span_of(from + r.value_at as u32, r.value_len as u32);
+    let value = sheet::span_of(from + r.value_span.at as u32, r.value_span.len as u32);
     let key = r.key;
     match key {
         Key::Title => Tally {
@@ -44,7 +44,7 @@ pub fn read_reference(line: &[u8], number: u32, offset: u32, tally: Tally, out: 
             ..tally
         },
         Key::Other => {
-            let key = sheet::span_of(from + r.key_at as u32, r.key_len as u32);
+            let key = sheet::span_of(from + r.key_span.at as u32, r.key_span.len as u32);
             let notice = Notice {
                 number: 1,
                 column: 0,

@@ -175,11 +175,11 @@ fn reference_of(record: &[u8]) {
         }
         Key::Other => {
             print(b"0 ");
-            print(slices::piece(record, found.key_at, found.key_len));
+            print(slices::piece(record, found.key_span.at, found.key_span.len));
         }
     }
     print(b"|");
-    print(slices::piece(record, found.value_at, found.value_len));
+    print(slices::piece(record, found.value_span.at, found.value_span.len));
 }
 
 // N: a notice's number, to its code and reason.

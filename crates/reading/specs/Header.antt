@@ -15,10 +15,10 @@ use Rattle.reading.specs.Notices.{Token, placed, span_of_token, quiet, after, ke
 -- ---- "`!!!` lines": "OTL, COM, LYR set title, composer, lyricist, the last one winning; other keys give notice 1"
 
 abbrev pub key_span : ℕ → Reference → Span
-key_span at r = span_of (at + r.key_at) r.key_len
+key_span at r = span_of (at + r.key_span.at) r.key_span.len
 
 abbrev pub value_span : ℕ → Reference → Span
-value_span at r = span_of (at + r.value_at) r.value_len
+value_span at r = span_of (at + r.value_span.at) r.value_span.len
 
 -- `key` is "filled only for 1, with the trimmed key"
 abbrev pub by_key : Key → ℕ → Span → Span → State → Result

@@ -2,7 +2,7 @@
 use mathlib.Core.Path.{◌≡◌, refl, sym, ap, ◌∙◌}
 use mathlib.Core.Bool.{cond}
 use mathlib.Core.List.{List, [], ◌∷◌, ◌++◌}
-use Prim.Native.Nat.{ℕ, zero, suc, ◌≤◌, ◌<◌}
+use Prim.Native.Nat.{ℕ, zero, suc, max, ◌≤◌, ◌<◌}
 use native.Mathlib.Nat.{not-suc-le-zero}
 use native.Mathlib.Omega.{arith}
 use lib.Dec.{eqb, eqb-suc-zero}
@@ -114,3 +114,12 @@ point_front s = go (char_length s) refl
     go : (n : ℕ) → char_length s ≡ n → code_point (take (cond (eqb n 0) 1 n) s) ≡ code_point s
     go zero e = point_single s e ∙ sym (point_none s e)
     go (suc n) e = rw (eqb-suc-zero n) (point_whole s (suc n) e (omega arith))
+
+-- the length of a character, 1 at the least
+pub width_max : (s : List ℕ) → max (char_length s) 1 ≡ width s
+unfolding width
+width_max s = go (char_length s)
+  where
+    go : (n : ℕ) → max n 1 ≡ cond (eqb n 0) 1 n
+    go zero = refl
+    go (suc n) = rw (eqb-suc-zero n) (omega arith)

@@ -7,7 +7,7 @@ use Rattle.slices.specs.Split.{index_of}
 use Rattle.slices.specs.Compare.{same_bytes}
 use Rattle.utf8.specs.Utf8.{table, begins, first_of, char_length, bits, code_point}
 use Rattle.reference.specs.Trim.{white, width, first_characters, characters, text, from_first, before, up_to_last, trimmed, leading, leading_white, trimmed_at}
-use Rattle.reference.specs.Reference.{key_of, reference_of}
+use Rattle.reference.specs.Reference.{key_of, span_of, reference_of}
 use Rattle.reference.specs.declared.Key.{Key}
 use Rattle.reference.specs.declared.Key.TheVariants.{Title, Composer, Lyricist, Other}
 use Rattle.reference.specs.declared.Reference.{Reference}
@@ -19,7 +19,7 @@ number Lyricist = 2
 number Other = 3
 
 numbers : Reference → List ℕ
-numbers r = number r.key ∷ r.key_at ∷ r.key_len ∷ r.value_at ∷ r.value_len ∷ []
+numbers r = number r.key ∷ r.key_span.at ∷ r.key_span.len ∷ r.value_span.at ∷ r.value_span.len ∷ []
 
 -- a record behind `!!!`; the number of its key, and offset and length of key and value
 records : List (List ℕ × List ℕ)
@@ -54,5 +54,5 @@ agrees (x ∷ xs) = same_bytes x.1 (numbers (reference_of x.0)) && agrees xs
 
 examples : T (agrees records)
 unfolding number numbers records agrees index_of same_bytes table begins first_of char_length bits code_point
-    white width first_characters characters text from_first before up_to_last trimmed leading leading_white trimmed_at key_of reference_of
+    white width first_characters characters text from_first before up_to_last trimmed leading leading_white trimmed_at key_of span_of reference_of
 examples = tt

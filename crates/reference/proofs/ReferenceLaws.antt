@@ -2,7 +2,7 @@
 use mathlib.Core.Path.{◌≡◌, refl, ap, ◌∙◌}
 use mathlib.Core.Bool.{Bool, true, false}
 use mathlib.Core.List.{List, []}
-use Prim.Native.Nat.{ℕ, ◌+◌, ◌-◌, ◌≤◌, ◌<◌}
+use Prim.Native.Nat.{ℕ, min, ◌+◌, ◌-◌, ◌≤◌, ◌<◌}
 use native.Mathlib.Omega.{arith}
 use lib.Dec.{leb}
 use borrow.Author.Tests.{leb-true, leb-false}
@@ -27,12 +27,12 @@ at_none from = rw trimmed_none
 
 -- ---- the spans of a record
 module _ (s : List ℕ) where
-  pub key_text : take (reference_of s).key_len (drop (reference_of s).key_at s) ≡ trimmed (key_part s)
-  unfolding reference_of
+  pub key_text : take (reference_of s).key_span.len (drop (reference_of s).key_span.at s) ≡ trimmed (key_part s)
+  unfolding reference_of span_of
   key_text = span_text s 0 (index_of 58 s) (omega (arith, index_inside 58 s))
 
-  pub key_inside : (reference_of s).key_at + (reference_of s).key_len ≤ length s
-  unfolding reference_of
+  pub key_inside : (reference_of s).key_span.at + (reference_of s).key_span.len ≤ length s
+  unfolding reference_of span_of
   key_inside = span_inside s 0 (index_of 58 s) (omega (arith, index_inside 58 s))
 
   -- a piece up to the end of s, or one behind it, which is empty
@@ -52,12 +52,12 @@ module _ (s : List ℕ) where
           let none : drop from s ≡ [] = drop_of_length-le s {i = from} (omega arith) in
           rw (none, at_none from, trimmed_none) (refl, omega arith)
 
-  pub value_text : take (reference_of s).value_len (drop (reference_of s).value_at s) ≡ trimmed (value_part s)
-  unfolding reference_of
+  pub value_text : take (reference_of s).value_span.len (drop (reference_of s).value_span.at s) ≡ trimmed (value_part s)
+  unfolding reference_of span_of
   value_text = (rest (index_of 58 s + 1)).0
 
-  pub value_inside : (reference_of s).value_at + (reference_of s).value_len ≤ length s
-  unfolding reference_of
+  pub value_inside : (reference_of s).value_span.at + (reference_of s).value_span.len ≤ length s
+  unfolding reference_of span_of
   value_inside = (rest (index_of 58 s + 1)).1
 
 -- ---- `reference_of`: the colon that `find` gives, the key's span k and the value's span v that `trim` gives
@@ -76,19 +76,25 @@ module _ (s : List ℕ) (colon : ℕ) (k : Span) (found : colon ≡ index_of 58 
         let n : k.at + k.len - k.at ≡ k.len = omega arith in
         named ∙ ap key_of (ap (λ (m : ℕ). take m (drop k.at s)) n ∙ rw key_span (key_text s))
 
-    pub reference_none : colon ≡ length s
-        → ◌≡◌ {A = Reference} (record { key = key; key_at = k.at; key_len = k.len; value_at = 0; value_len = 0 }) (reference_of s)
-    unfolding span_of reference_of
-    reference_none z =
-        let none : drop (index_of 58 s + 1) s ≡ [] = drop_of_length-le s {i = index_of 58 s + 1} (omega arith) in
-        rw (none, at_none (index_of 58 s + 1), trimmed_none, key_span, key_is)
+    behind : (from : ℕ) (v : Span) → from ≡ min (colon + 1) (length s) → v ≡ span_of from (take (length s - from) (drop from s))
+        → v ≡ span_of (index_of 58 s + 1) (value_part s)
+    unfolding span_of
+    behind from v at rest-cut =
+        let whole : take (length s - from) (drop from s) ≡ drop from s = take_all (length s - from) (drop from s) (omega (arith, length-drop from s)) in
+        rest-cut ∙ ap (span_of from) whole ∙ go (leb (colon + 1) (length s)) refl
+      where
+        go : (t : Bool) → leb (colon + 1) (length s) ≡ t → span_of from (drop from s) ≡ span_of (index_of 58 s + 1) (value_part s)
+        go true e =
+            let h : colon + 1 ≤ length s = leb-true (colon + 1) (length s) e in
+            let z : from ≡ index_of 58 s + 1 = omega arith in
+            ap (λ (x : ℕ). span_of x (drop x s)) z
+        go false e =
+            let h : length s < colon + 1 = leb-false (colon + 1) (length s) e in
+            let none : drop from s ≡ [] = drop_of_length-le s {i = from} (omega arith) in
+            let none' : value_part s ≡ [] = drop_of_length-le s {i = index_of 58 s + 1} (omega arith) in
+            rw (none, none', at_none from, at_none (index_of 58 s + 1))
 
-    pub reference_some : (v : Span) → v ≡ span_of (colon + 1) (take (length s - (colon + 1)) (drop (colon + 1) s))
-        → ◌≡◌ {A = Reference} (record { key = key; key_at = k.at; key_len = k.len; value_at = v.at; value_len = v.len }) (reference_of s)
-    unfolding span_of reference_of
-    reference_some v rest-cut =
-        let whole : take (length s - (colon + 1)) (drop (colon + 1) s) ≡ drop (colon + 1) s =
-        take_all (length s - (colon + 1)) (drop (colon + 1) s) (omega (arith, length-drop (colon + 1) s)) in
-        let value : v ≡ span_of (index_of 58 s + 1) (value_part s) =
-        rest-cut ∙ ap (span_of (colon + 1)) whole ∙ ap (λ (x : ℕ). span_of (x + 1) (drop (x + 1) s)) found in
-        rw (key_span, value, key_is)
+    pub reference_is : (from : ℕ) (v : Span) → from ≡ min (colon + 1) (length s) → v ≡ span_of from (take (length s - from) (drop from s))
+        → ◌≡◌ {A = Reference} (record { key = key; key_span = k; value_span = v }) (reference_of s)
+    unfolding reference_of
+    reference_is from v at rest-cut = rw (key_span, behind from v at rest-cut, key_is)

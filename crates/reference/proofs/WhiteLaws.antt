@@ -46,10 +46,9 @@ pub white_blank : (c : ℕ) → c ≡ 32 → (white c ≡ true) × (c < 128)
 unfolding white
 white_blank c e = (ap white e, omega arith)
 
-pub white_space : (c : ℕ) → 9 ≤ c → leb c 13 ≡ true → (white c ≡ true) × (c < 128)
+pub white_space : (c : ℕ) → 9 ≤ c → c ≤ 13 → (white c ≡ true) × (c < 128)
 unfolding white
-white_space c low t =
-    let high : c ≤ 13 = leb-true c 13 t in
+white_space c low high =
     (sym (white_run 9 5 tt c low (omega arith)), omega arith)
 
 outside : (lo hi c : ℕ) → (lo ≤ c → hi < c) → (leb lo c && leb c hi) ≡ false

@@ -33,8 +33,6 @@ span_of from s = record { at = trimmed_at from s; len = length (trimmed s) }
 unfoldable pub reference_of : List ℕ → Reference
 reference_of s = record {
   key = key_of (trimmed (key_part s));
-  key_at = trimmed_at 0 (key_part s);
-  key_len = length (trimmed (key_part s));
-  value_at = trimmed_at (index_of 58 s + 1) (value_part s);
-  value_len = length (trimmed (value_part s));
+  key_span = span_of 0 (key_part s);
+  value_span = span_of (index_of 58 s + 1) (value_part s);
 }

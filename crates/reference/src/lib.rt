@@ -1,13 +1,12 @@
 #![tactic(auto)]
 
 // Reference records, `!!!key: value`: the key and the value, without the white space around them.
-ghost use Rattle.std.specs.Prelude.{◌≡◌, true, [], ◌∷◌, ◌+◌, ◌-◌, ◌≤◌, ◌<◌, length, take, drop};
-ghost use Rattle.slices.specs.Compare.{same_bytes};
+ghost use Rattle.std.specs.Prelude.{◌≡◌, true, ◌+◌, ◌-◌, ◌≤◌, ◌<◌, length, take, drop};
 ghost use Rattle.reference.specs.Trim.{white, width, At, leading_white, trimmed_end};
 ghost use Rattle.reference.specs.Reference.{key_of, span_of, reference_of};
 
 // What a reference record's key names.
-#[derive(Clone, Copy)]
+#[derive(Clone, Copy, PartialEq, Eq, Debug)]
 pub enum Key {
     Title,
     Composer,
@@ -16,41 +15,32 @@ pub enum Key {
 }
 
 // A piece of a text; the empty one is 0, 0.
-#[derive(Clone, Copy)]
+#[derive(Clone, Copy, PartialEq, Eq, Debug)]
 pub struct Span {
     pub at: usize,
     pub len: usize,
 }
 
 // A reference record: its key and its value as pieces of the record behind `!!!`.
-#[derive(Clone, Copy)]
+#[derive(Clone, Copy, PartialEq, Eq, Debug)]
 pub struct Reference {
     pub key: Key,
-    pub key_at: usize,
-    pub key_len: usize,
-    pub value_at: usize,
-    pub value_len: usize,
+    pub key_span: Span,
+    pub value_span: Span,
 }
 
 // Whether a code point is white space.
 pub fn white(c: u32) -> bool
     ensures { result ≡ white c }
 {
-    match c {
-        9..=13 | 32 | 133 | 160 | 5760 | 8192..=8202 | 8232 | 8233 | 8239 | 8287 | 12288 => true,
-        _ => false,
-    }
+    matches!(c, 9..=13 | 32 | 133 | 160 | 5760 | 8192..=8202 | 8232 | 8233 | 8239 | 8287 | 12288)
 }
 
 // The bytes of the character at the front of s; a byte at which none stands counts as one.
 fn width(s: &[u8]) -> usize
     ensures { result ≡ width s.now }
 {
-    let n = utf8::char_length(s);
-    if n == 0 {
-        return 1;
-    }
-    n
+    utf8::char_length(s).max(1)
 }
 
 // A character of a text: where its bytes end, and whether it is white.
@@ -75,24 +65,14 @@ fn character(s: &[u8], i: usize) -> Turn
 fn ink(b: u8) -> bool
     ensures { result ≡ true → (32 < b) × (b < 128) }
 {
-    let low = b <= 32;
-    if low {
-        return false;
-    }
-    b < 128
+    matches!(b, 33..=127)
 }
 
 // Whether a byte is a white ASCII character.
 fn space(b: u8) -> bool
     ensures { result ≡ true → (white b ≡ true) × (b < 128) }
 {
-    if b == 32 {
-        return true;
-    }
-    if b < 9 {
-        return false;
-    }
-    b <= 13
+    matches!(b, 9..=13 | 32)
 }
 
 // How many bytes the white characters at the front of s have.
@@ -143,19 +123,11 @@ fn last_end(s: &[u8]) -> usize
 pub fn trimmed_end(s: &[u8]) -> usize
     ensures { (result ≡ trimmed_end s.now) × (result ≤ length s.now) }
 {
-    let mut n = s.len();
-    while 0 < n {
-        let b = s[n - 1];
-        if ink(b) {
-            return n;
-        }
-        if space(b) {
-            n -= 1;
-        } else {
-            return last_end(&s[..n]);
-        }
+    match s.iter().rposition(|&b| !space(b)) {
+        None => 0,
+        Some(last) if ink(s[last]) => last + 1,
+        Some(last) => last_end(&s[..=last]),
     }
-    0
 }
 
 // The piece of s from `from` to `to`, without the white space at its ends.
@@ -175,36 +147,16 @@ fn trim(s: &[u8], from: usize, to: usize) -> Span
     }
 }
 
-// Whether k is exactly three bytes.
-fn spells(k: &[u8], a: u8, b: u8, c: u8) -> bool
-    ensures { result ≡ same_bytes (a ∷ b ∷ c ∷ []) k.now }
-{
-    if k.len() != 3 {
-        return false;
-    }
-    if k[0] != a {
-        return false;
-    }
-    if k[1] != b {
-        return false;
-    }
-    k[2] == c
-}
-
 // What a trimmed key names.
 pub fn key_of(k: &[u8]) -> Key
     ensures { result ≡ key_of k.now }
 {
-    if spells(k, b'O', b'T', b'L') {
-        return Key::Title;
+    match k {
+        b"OTL" => Key::Title,
+        b"COM" => Key::Composer,
+        b"LYR" => Key::Lyricist,
+        _ => Key::Other,
     }
-    if spells(k, b'C', b'O', b'M') {
-        return Key::Composer;
-    }
-    if spells(k, b'L', b'Y', b'R') {
-        return Key::Lyricist;
-    }
-    Key::Other
 }
 
 // The reference record whose bytes behind `!!!` are s.
@@ -212,25 +164,13 @@ pub fn reference_of(s: &[u8]) -> Reference
     ensures { result ≡ reference_of s.now }
 {
     let colon = slices::find(s, b':');
-    let k = trim(s, 0, colon);
-    let key_at = k.at;
-    let key_len = k.len;
-    let key = key_of(&s[key_at..key_at + key_len]);
-    if colon == s.len() {
-        return Reference {
-            key,
-            key_at,
-            key_len,
-            value_at: 0,
-            value_len: 0,
-        };
-    }
-    let v = trim(s, colon + 1, s.len());
+    let key_span = trim(s, 0, colon);
+    let key = key_of(&s[key_span.at..key_span.at + key_span.len]);
+    let behind = (colon + 1).min(s.len());
+    let value_span = trim(s, behind, s.len());
     Reference {
         key,
-        key_at,
-        key_len,
-        value_at: v.at,
-        value_len: v.len,
+        key_span,
+        value_span,
     }
 }

@@ -1,13 +1,10 @@
--- `space`: what its tests say.
-use mathlib.Core.Bool.{false≢true}
+-- `space`: what its keys say.
+use borrow.Author.Rules.{rules}
 use Rattle.reference.proofs.WhiteLaws.{white_blank, white_space}
 use Rattle.reference.proofs.space.Goals as goal
 
-pub returns-then-b-eq32 : goal.returns-then-b-eq32
-returns-then-b-eq32 c = λ t. white_blank _ c.if-b-eq32.true
+pub returns-in-9-to-13 : goal.returns-in-9-to-13
+returns-in-9-to-13 c = λ t. search (rules, white_blank)
 
-pub returns-then-b-lt9 : goal.returns-then-b-lt9
-returns-then-b-lt9 c = λ t. absurd (false≢true t)
-
-pub returns : goal.returns
-returns c = white_space _ c.if-b-lt9.false
+pub returns-in-9-to-13-2 : goal.returns-in-9-to-13-2
+returns-in-9-to-13-2 c = λ t. search (rules, white_space)

@@ -1,32 +1,37 @@
--- `trimmed_end`: what stands from n on is white.
-use mathlib.Core.Path.{sym}
-use lib.Seq.{length-take-le}
-use Rattle.reference.proofs.EndLaws.{ending_first, ending_turn, ending_done, ending_rest, ending_past}
+-- `trimmed_end`: what stands behind the last byte that is no white ASCII character is white.
+use mathlib.Core.Path.{◌≡◌}
+use mathlib.Core.Bool.{true}
+use mathlib.Core.List.{List}
+use Prim.Native.Nat.{ℕ, ◌<◌}
+use Rattle.std.proofs.Common.{Option}
+use lib.ListN.{length, get_or}
+use borrow.Author.Rules.{rules}
+use borrow.Author.Tests.{tests}
+use Rattle.std.specs.Option.{MatchOption}
+use Rattle.reference.specs.Trim.{white}
+use Rattle.reference.proofs.EndLaws.{all_spaces, last_ink, last_else}
 use Rattle.reference.proofs.trimmed_end.Goals as goal
 
-pub loop-n-init : goal.loop-n-init
-loop-n-init c = ending_first
+abbrev spaces : List ℕ → Option ℕ → Type 0
+spaces s r = MatchOption r ((k : ℕ) → k < length s → (white (get_or s k 0) ≡ true) × (get_or s k 0 < 128))
+    (λ i. (i < length s) × ((k : ℕ) → i < k → k < length s → (white (get_or s k 0) ≡ true) × (get_or s k 0 < 128)))
 
-pub ink-requires : goal.ink-requires
-ink-requires c = tt
+pub returns-in-None : goal.returns-in-None
+returns-in-None c =
+    let s = c.args.s.now in
+    let e : spaces s c.rposition.result = search (rules, tests) in
+    all_spaces s (rw c.in-None.is at e)
 
-pub returns-then-ink : goal.returns-then-ink
-returns-then-ink c = ending_done c.loop-n.invariant c.loop-n-test.true (c.ink.ensures c.if-ink.true).0 (c.ink.ensures c.if-ink.true).1
+pub returns-in-Some : goal.returns-in-Some
+returns-in-Some c =
+    let s = c.args.s.now in
+    let e : spaces s c.rposition.result = search (rules, tests) in
+    let f = rw c.in-Some.is at e in
+    last_ink s c.in-Some.last f.0 f.1 (c.ink.ensures c.if-ink.true)
 
-pub space-requires : goal.space-requires
-space-requires c = tt
-
-pub loop-n-preserved : goal.loop-n-preserved
-loop-n-preserved c = ending_turn c.loop-n.invariant c.loop-n-test.true (c.space.ensures c.if-space.true).0 (c.space.ensures c.if-space.true).1
-
-pub slice_bounds-last_end-end : goal.slice_bounds-last_end-end
-slice_bounds-last_end-end c = sym (length-take-le _ _ c.loop-n.invariant.high)
-
-pub last_end-requires : goal.last_end-requires
-last_end-requires c = tt
-
-pub returns-else-space : goal.returns-else-space
-returns-else-space c = ending_rest c.loop-n.invariant c.last_end.ensures
-
-pub returns : goal.returns
-returns c = ending_past c.loop-n.invariant c.loop-n-test.false
+pub returns-in-Some-2 : goal.returns-in-Some-2
+returns-in-Some-2 c =
+    let s = c.args.s.now in
+    let e : spaces s c.rposition.result = search (rules, tests) in
+    let f = rw c.in-Some.is at e in
+    last_else s c.in-Some.last f.0 f.1 c.last_end.ensures
