@@ -14,7 +14,7 @@ use Rattle.duration.specs.declared.Value.{Value}
 use Rattle.std.specs.Prelude.{Option, None}
 use Rattle.peers.specs.Peers.{is_bare, peers_from, uniform, peer_reciprocal, kern_cells}
 use Rattle.peers.proofs.SummaryLaws.{bare_column}
-use Rattle.peers.proofs.MeetLaws.{no_value}
+use Rattle.peers.proofs.OfferLaws.{no_value}
 use Rattle.spines.specs.Cells.{spine_of, row_of}
 use Rattle.spines.proofs.CellLaws.{cell_outside, cell_line, cell_branch}
 use Rattle.reading.specs.Bars.{is_kern_spine}

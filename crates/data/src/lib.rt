@@ -172,11 +172,10 @@ fn read_stretch(
             i += 1;
             continue;
         }
-        let shape = plain::shape_of(line, from);
+        let Some(shape) = plain::shape_of(line, from) else {
+            break;
+        };
         match shape {
-            Shape::Other => {
-                break;
-            }
             Shape::Null(end) => {
                 from = end + 1;
                 i += 1;

@@ -93,12 +93,5 @@ one_put out k e = (rw e, rw e)
 pub one_room : {bytes : List ℕ} {b k n : ℕ} → bytes ≡ b ∷ [] → k + length bytes ≤ n → k < n
 one_room e h = let l = ap length e in omega arith
 
-pub three_put : {bytes : List ℕ} {a b c : ℕ} (out : List ℕ) (k : ℕ) → bytes ≡ a ∷ b ∷ c ∷ []
-    → (set (set (set out k a) (k + 1) b) (k + 2) c ≡ sets out k bytes) × (k + 3 ≡ k + length bytes)
-three_put {bytes} {a} {b} {c} out k e =
-    let p : k + 1 ≡ suc k = omega arith in
-    let q : k + 2 ≡ suc (suc k) = omega arith in
-    (rw (e, p, q), rw e)
-
 pub three_room : {bytes : List ℕ} {a b c k n : ℕ} → bytes ≡ a ∷ b ∷ c ∷ [] → k + length bytes ≤ n → suc (suc k) < n
 three_room e h = let l = ap length e in omega arith

@@ -30,10 +30,8 @@ pub fn fill_articulations(out: &mut [u8], token: &[u8])
     ensures { out.new ≡ stored out.old (articulation_bytes token.now) }
 {
     let mut k = 0;
-    let mut i = 0;
-    while i < token.len() {
-        k = put_articulation(out, k, token[i]);
-        i += 1;
+    for b in token {
+        k = put_articulation(out, k, *b);
     }
 }
 
@@ -42,10 +40,9 @@ pub fn put_articulations(out: &mut [u8], token: &[u8])
     ensures { out.new ≡ stored out.old (articulation_bytes token.now) }
 {
     let scan = scan::scan_token(token);
-    if out.len() < scan.articulations {
-        return;
+    if scan.articulations <= out.len() {
+        fill_articulations(out, token);
     }
-    fill_articulations(out, token);
 }
 
 // Bytes at k; the place behind them.
@@ -53,8 +50,9 @@ fn put_run(out: &mut [u8], k: usize, run: &[u8]) -> usize
     requires { k + length run.now ≤ length out.old }
     ensures { (out.new ≡ sets out.old k run.now) × (result ≡ k + length run.now) }
 {
-    slices::put(&mut out[k..], run);
-    k + run.len()
+    let end = k + run.len();
+    out[k..end].copy_from_slice(run);
+    end
 }
 
 // The signifiers of a token, for which there is room.
@@ -65,6 +63,7 @@ pub fn fill_signifiers(out: &mut [u8], token: &[u8])
     let mut sounding = false;
     let mut k = 0;
     let mut i = 0;
+    // Stays: each turn goes past a whole item, so the index is the item's end, which the searches of `items` and `scan` find, and no count.
     while i < token.len() {
         let b = token[i];
         if items::is_digit(b) {
@@ -109,10 +108,9 @@ pub fn put_signifiers(out: &mut [u8], token: &[u8])
     ensures { out.new ≡ stored out.old (signifier_bytes token.now) }
 {
     let scan = scan::scan_token(token);
-    if out.len() < scan.signifiers {
-        return;
+    if scan.signifiers <= out.len() {
+        fill_signifiers(out, token);
     }
-    fill_signifiers(out, token);
 }
 
 // The three bytes of a pitch, if there is one, at k; the place behind them.
@@ -121,15 +119,8 @@ fn put_sound(out: &mut [u8], k: usize, s: Option<Tone>) -> usize
     ensures { (out.new ≡ sets out.old k (sound_bytes s)) × (result ≡ k + length (sound_bytes s)) }
 {
     match s {
-        None => {
-            return k;
-        }
-        Some(t) => {
-            out[k] = t.step;
-            out[k + 1] = t.octave;
-            out[k + 2] = pitch::alter_byte(t.alter);
-            return k + 3;
-        }
+        None => k,
+        Some(t) => put_run(out, k, &[t.step, t.octave, pitch::alter_byte(t.alter)]),
     }
 }
 
@@ -166,6 +157,7 @@ pub fn fill_pitches(out: &mut [u8], token: &[u8])
     let mut sound = None;
     let mut k = 0;
     let mut i = 0;
+    // Stays: each turn goes past a whole item, so the index is the item's end, which the searches of `items` and `scan` find, and no count.
     while i < token.len() {
         let b = token[i];
         if items::is_digit(b) {
@@ -199,11 +191,7 @@ pub fn put_pitches(out: &mut [u8], token: &[u8])
     ensures { out.new ≡ stored out.old (pitch_bytes token.now) }
 {
     let scan = scan::scan_token(token);
-    if scan.rest {
-        return;
+    if !scan.rest && scan.pitches <= out.len() / 3 {
+        fill_pitches(out, token);
     }
-    if out.len() / 3 < scan.pitches {
-        return;
-    }
-    fill_pitches(out, token);
 }

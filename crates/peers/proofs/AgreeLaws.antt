@@ -1,57 +1,23 @@
--- A neighbour offers digits that another offers: it begins with them, no digit follows, and nothing is forbidden.
+-- A neighbour offers digits that another offers: it begins with them, something follows that is no digit, and nothing is forbidden.
 use mathlib.Core.Path.{◌≡◌, refl, sym, ap, ◌∙◌}
-use Prim.Native.Nat.{ℕ, suc, ◌+◌, ◌≤◌, ◌<◌}
+use Prim.Native.Nat.{ℕ, suc, ◌+◌, ◌<◌}
 use native.Mathlib.Nat.{not-suc-le-zero, le_of_suc-le-suc}
-use native.Mathlib.Numerals.{add-one}
 use native.Mathlib.Omega.{arith}
 use mathlib.Core.List.{List, [], ◌∷◌}
-use mathlib.Core.Bool.{Bool, true, false, cond, ◌&&◌, ◌||◌, false≢true}
+use mathlib.Core.Bool.{Bool, true, false, cond, not, ◌&&◌, false≢true}
 use lib.Dec.{eqb}
-use lib.ListN.{length, drop, get_or, length-take, drop_of_length-le}
-use lib.Seq.{drop-cons}
+use lib.ListN.{length, take, drop, get_or}
+use lib.Pointwise.{pointwise}
 use borrow.Author.Tests.{eq-eqb, ne_eqb, eqb-true}
+use Rattle.std.specs.Prelude.{Option, Some, None, slice_get}
 use Rattle.slices.specs.Compare.{begins_with, same_bytes}
 use Rattle.slices.proofs.CompareLaws.{same_is}
+use Rattle.slices.proofs.SplitLaws.{at_index}
 use Rattle.duration.specs.Duration.{duration_of}
 use Rattle.duration.specs.declared.Value.{Value}
-use Rattle.std.specs.Prelude.{Option, Some, None}
-use Rattle.notation.specs.Bytes.{contains}
 use Rattle.items.specs.Items.{is_digit}
 use Rattle.peers.specs.Peers.{leading, forbids, if_value, offer_of, Offered}
-use Rattle.peers.proofs.OfferLaws.{leading_prefix}
-
--- ---- a blank, a point or a `%`, byte by byte
-pub record Forbids (s : List ℕ) (i : ℕ) : Type 0 where
-  pub high : i ≤ length s
-  pub same : forbids s ≡ forbids (drop i s)
-
-forbids_more : (x : ℕ) (xs : List ℕ) → forbids (x ∷ xs) ≡ ((eqb x 32 || (eqb x 46 || eqb x 37)) || forbids xs)
-unfolding forbids contains
-forbids_more x xs = go (eqb x 32) (eqb x 46) (eqb x 37) (contains 32 xs) (contains 46 xs) (contains 37 xs)
-  where
-    go : (a b c d e f : Bool) → ((a || d) || ((b || e) || (c || f))) ≡ ((a || (b || c)) || (d || (e || f)))
-    go true b c d e f = refl
-    go false true c true e f = refl
-    go false true c false e f = refl
-    go false false true true e f = refl
-    go false false true false true f = refl
-    go false false true false false f = refl
-    go false false false d e f = refl
-
-module _ {s : List ℕ} {i : ℕ} (inv : Forbids s i) where
-  forbids_at : i < length s → forbids s ≡ ((eqb (get_or s i 0) 32 || (eqb (get_or s i 0) 46 || eqb (get_or s i 0) 37)) || forbids (drop (i + 1) s))
-  forbids_at h = inv.same ∙ ap forbids (drop-cons s i 0 h) ∙ forbids_more (get_or s i 0) (drop (suc i) s) ∙ rw add-one
-
-  module _ {t : Bool} (h : i < length s) (p : t ≡ (eqb (get_or s i 0) 32 || (eqb (get_or s i 0) 46 || eqb (get_or s i 0) 37))) where
-    pub forbids_turn : t ≡ false → Forbids s (i + 1)
-    forbids_turn q = record { high = omega arith; same = forbids_at h ∙ rw (sym p ∙ q) }
-
-    pub forbids_here : t ≡ true → true ≡ forbids s
-    forbids_here q = sym (forbids_at h ∙ rw (sym p ∙ q))
-
-  pub forbids_past : length s ≤ i → false ≡ forbids s
-  unfolding forbids contains
-  forbids_past h = sym (inv.same ∙ ap forbids (drop_of_length-le s h))
+use Rattle.peers.proofs.OfferLaws.{leading_short}
 
 -- ---- what is known of a token that offers digits
 record Facts (t ds : List ℕ) : Type 0 where
@@ -78,18 +44,6 @@ facts t ds e some = go (forbids t) (eqb (length (leading t)) (length t)) (durati
     go false true v p q w r = absurd (some (ap length r))
     go false false None p q w r = absurd (some (ap length r))
     go false false (Some v) p q w r = valued (Some v) w p q r (λ l. refl)
-
-leading_twice : (t : List ℕ) → leading (leading t) ≡ leading t
-unfolding leading
-leading_twice [] = refl
-leading_twice (x ∷ xs) = go (is_digit x) refl (leading_twice xs)
-  where
-    go : (b : Bool) → is_digit x ≡ b → leading (leading xs) ≡ leading xs → leading (cond b (x ∷ leading xs) []) ≡ cond b (x ∷ leading xs) []
-    go true e ih = rw (e, ih)
-    go false e ih = refl
-
-leading_short : (t : List ℕ) → length (leading t) ≤ length t
-leading_short t = omega (arith, length-take (length (leading t)) t, ap length (leading_prefix t))
 
 -- the byte behind the digits isn't one
 leading_stop : (t : List ℕ) → length (leading t) < length t → is_digit (get_or t (length (leading t)) 0) ≡ false
@@ -138,41 +92,51 @@ refuse true h = absurd (h refl)
 refuse false h = refl
 
 -- ---- the ways out of `agrees`
-module _ (t : List ℕ) {ds known : List ℕ} (o : Offered ds) (k : known ≡ ds) where
+stripped : (p s : List ℕ) → pointwise eqb (take (length p) s) p ≡ begins_with p s
+unfolding begins_with
+stripped [] s = refl
+stripped (x ∷ p) [] = refl
+stripped (x ∷ p) (y ∷ s) = ap (λ (b : Bool). eqb y x && b) (stripped p s)
+
+module _ (t : List ℕ) {ds : List ℕ} (o : Offered ds) where
   of : same_bytes (offer_of t) ds ≡ true → Facts t ds
   of e = facts t ds (same_is (offer_of t) ds e) o.some
 
-  pub agree_short : length t ≤ length known → false ≡ same_bytes (offer_of t) ds
-  agree_short h = refuse (same_bytes (offer_of t) ds) (λ e. let f = of e in f.more (omega (arith, leading_short t, ap length f.leads, ap length k)))
+  pub agree_other : pointwise eqb (take (length ds) t) ds ≡ false → false ≡ same_bytes (offer_of t) ds
+  agree_other p =
+      refuse (same_bytes (offer_of t) ds)
+      (λ e. let z : begins_with ds t ≡ true = rw ((of e).leads) at (leading_begins t) in
+      false≢true (sym p ∙ stripped ds t ∙ z))
 
-  module _ (h : length known < length t) where
-    pub agree_digit : {b : Bool} → b ≡ is_digit (get_or t (length known) 0) → b ≡ true → false ≡ same_bytes (offer_of t) ds
-    agree_digit p q =
-        refuse (same_bytes (offer_of t) ds)
-        (λ e. let f = of e in
-        let l : leading t ≡ known = f.leads ∙ sym k in
-        let z : is_digit (get_or t (length known) 0) ≡ false = rw l at (leading_stop t (omega (arith, ap length l))) in
-        false≢true (sym z ∙ sym p ∙ q))
+  behind : Facts t ds → length ds < length t
+  behind f = omega (arith, leading_short t, ap length f.leads, f.more)
 
-    pub agree_other : {b : Bool} → b ≡ begins_with known t → b ≡ false → false ≡ same_bytes (offer_of t) ds
-    agree_other p q =
-        refuse (same_bytes (offer_of t) ds)
-        (λ e. let f = of e in
-        let l : leading t ≡ known = f.leads ∙ sym k in
-        let z : begins_with known t ≡ true = rw l at (leading_begins t) in
-        false≢true (sym q ∙ p ∙ z))
+  pub agree_short : {rest : List ℕ} → rest ≡ drop (length ds) t → None ≡ slice_get rest 0 → false ≡ same_bytes (offer_of t) ds
+  agree_short {rest} p q =
+      refuse (same_bytes (offer_of t) ds)
+      (λ e. let some : rest ≡ get_or t (length ds) 0 ∷ drop (length ds + 1) t = p ∙ at_index t (length ds) (behind (of e)) in
+      let z : None ≡ Some (get_or t (length ds) 0) = q ∙ ap (λ l. slice_get l 0) some in
+      cc)
 
-    pub agree_forbids : {b : Bool} → b ≡ forbids t → b ≡ true → false ≡ same_bytes (offer_of t) ds
-    agree_forbids p q = refuse (same_bytes (offer_of t) ds) (λ e. let f = of e in false≢true (sym f.free ∙ sym p ∙ q))
-
-    pub agree_all : {a b c : Bool} → a ≡ is_digit (get_or t (length known) 0) → a ≡ false → b ≡ begins_with known t → b ≡ true → c ≡ forbids t → c ≡ false
-        → true ≡ same_bytes (offer_of t) ds
+  module _ (b : pointwise eqb (take (length ds) t) ds ≡ true) where
+    agree_by : (d f : Bool) → is_digit (get_or t (length ds) 0) ≡ d → forbids t ≡ f → length ds < length t → (not d && not f) ≡ same_bytes (offer_of t) ds
     unfolding offer_of
-    agree_all p q r u v w =
-        let f = facts o.token ds o.same o.some in
-        let d : leading ds ≡ ds = ap leading (sym f.leads) ∙ leading_twice o.token ∙ f.leads in
-        let b : begins_with ds t ≡ true = ap (λ (l : List ℕ). begins_with l t) (sym k) ∙ sym r ∙ u in
-        let n : is_digit (get_or t (length ds) 0) ≡ false = ap (λ (l : List ℕ). is_digit (get_or t (length l) 0)) (sym k) ∙ sym p ∙ q in
-        let l : leading t ≡ ds = leading_is ds t d b (omega (arith, ap length k)) n in
-        let m : eqb (length ds) (length t) ≡ false = ne_eqb (length ds) (length t) (λ z. omega (arith, ap length k)) in
-        sym (rw (sym v ∙ w, l, m, f.valued) (same_self ds))
+    agree_by true f p q h =
+        refuse (same_bytes (offer_of t) ds)
+        (λ e. let l : leading t ≡ ds = (of e).leads in
+        let z : is_digit (get_or t (length ds) 0) ≡ false = rw l at (leading_stop t (omega (arith, ap length l))) in
+        false≢true (sym z ∙ p))
+    agree_by false true p q h = refuse (same_bytes (offer_of t) ds) (λ e. false≢true (sym ((of e).free) ∙ q))
+    agree_by false false p q h =
+        let l : leading t ≡ ds = leading_is ds t o.digits (sym (stripped ds t) ∙ b) h p in
+        let m : eqb (length ds) (length t) ≡ false = ne_eqb (length ds) (length t) (λ z. omega arith) in
+        sym (rw (q, l, m, o.valued) (same_self ds))
+
+    pub agree_last : (rest : List ℕ) {next : ℕ} → rest ≡ drop (length ds) t → length rest + length ds ≡ length t → Some next ≡ slice_get rest 0
+        → (not (is_digit next) && not (forbids t)) ≡ same_bytes (offer_of t) ds
+    agree_last [] {next} p n q = cc
+    agree_last (x ∷ rest) {next} p n q =
+        let h : length ds < length t = omega arith in
+        let e : x ∷ rest ≡ get_or t (length ds) 0 ∷ drop (length ds + 1) t = p ∙ at_index t (length ds) h in
+        let same : next ≡ get_or t (length ds) 0 = cc in
+        rw same (agree_by (is_digit (get_or t (length ds) 0)) (forbids t) refl refl h)

@@ -5,3 +5,4 @@ pub mod TallyLaws
 pub mod SummaryLaws
 pub mod MeetLaws
 pub mod Examples
+pub mod FoundLaws

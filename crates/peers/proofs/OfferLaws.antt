@@ -1,75 +1,60 @@
--- What a neighbour offers, and the search for signs.
+-- What a neighbour offers, and the searches for signs and for what forbids it.
 use mathlib.Core.Path.{◌≡◌, refl, sym, ap, ◌∙◌}
-use Prim.Native.Nat.{ℕ, zero, suc, ◌+◌, ◌≤◌, ◌<◌}
-use native.Mathlib.Numerals.{add-one}
+use Prim.Native.Nat.{ℕ, ◌+◌, ◌≤◌, ◌<◌}
 use native.Mathlib.Omega.{arith}
 use mathlib.Core.List.{List, [], ◌∷◌}
-use mathlib.Core.Bool.{Bool, true, false, cond, ◌&&◌, false≢true}
-use lib.Dec.{eqb}
-use lib.ListN.{length, take, drop, get_or, drop_of_length-le}
-use lib.Seq.{drop-cons}
-use borrow.Author.Tests.{eq-eqb, ne_eqb}
+use mathlib.Core.Bool.{Bool, true, false, cond, not, ◌&&◌, ◌||◌, false≢true}
+use lib.Dec.{eqb, ltb}
+use lib.ListN.{length, take, length-take}
+use borrow.Author.Tests.{eq-eqb, ne_eqb, ltb-true, ltb-false}
+use Rattle.std.specs.Prelude.{Option, Some, None, slice_get}
+use Rattle.std.specs.List.{list_all, list_any, position, position_or_len}
+use Rattle.std.proofs.lemmas.List.Recursion.{is_position_or_len}
 use Rattle.slices.proofs.TestLaws.{both}
-use Rattle.duration.specs.Duration.{duration_of}
+use Rattle.duration.specs.Duration.{duration_of, digits, counts}
+use Rattle.slices.specs.Compare.{same_bytes}
 use Rattle.duration.specs.declared.Value.{Value}
-use Rattle.std.specs.Prelude.{Option, Some, None}
 use Rattle.notation.specs.Bytes.{contains, trim_start}
-use Rattle.items.specs.Items.{is_digit, is_letter, joins, item_of, more, first, next_item}
+use Rattle.items.specs.Items.{is_digit, is_letter}
 use Rattle.items.proofs.NextLaws.{letter_no_digit}
-use Rattle.items.specs.declared.Item.{Item}
-use Rattle.items.specs.declared.Item.TheVariants.{Digits, Letters, Blank, Mark}
-use Rattle.items.specs.declared.Next.{Next}
 use Rattle.token.specs.Token.{signs}
-use Rattle.peers.specs.Peers.{only_signs, is_bare, leading, forbids, if_value, offer_of, if_some}
+use Rattle.peers.specs.Peers.{only_signs, is_bare, leading, forbids, if_value, offer_of, Offered}
 
 -- ---- signs only
-pub record Signs (s : List ℕ) (i : ℕ) : Type 0 where
-  pub high : i ≤ length s
-  pub same : only_signs s ≡ only_signs (drop i s)
-
-module _ {s : List ℕ} {i : ℕ} (inv : Signs s i) where
-  sign_at : i < length s → only_signs s ≡ (contains (get_or s i 0) signs && only_signs (drop (i + 1) s))
-  unfolding only_signs
-  sign_at h = inv.same ∙ rw (drop-cons s i 0 h, add-one)
-
-  pub sign_turn : {t : Bool} → i < length s → t ≡ contains (get_or s i 0) signs → t ≡ true → Signs s (i + 1)
-  sign_turn h p q = record { high = omega arith; same = sign_at h ∙ rw (sym p ∙ q) }
-
-  pub sign_not : {t : Bool} → i < length s → t ≡ contains (get_or s i 0) signs → t ≡ false → false ≡ only_signs s
-  sign_not h p q = sym (sign_at h ∙ rw (sym p ∙ q))
-
-  pub sign_past : length s ≤ i → true ≡ only_signs s
-  unfolding only_signs
-  sign_past h = sym (inv.same ∙ ap only_signs (drop_of_length-le s h))
+pub all_signs : (s : List ℕ) → list_all (λ x. contains x signs) s ≡ only_signs s
+unfolding only_signs
+all_signs [] = refl
+all_signs (x ∷ xs) = ap (λ t. contains x signs && t) (all_signs xs)
 
 -- ---- a bare token
-pub bare_none : (s : List ℕ) → length s ≡ 0 → false ≡ is_bare s
+pub bare_none : (s : List ℕ) → None ≡ slice_get s 0 → false ≡ is_bare s
 unfolding is_bare
 bare_none [] h = refl
 bare_none (x ∷ xs) h = cc
 
-pub bare_letter : (s : List ℕ) {t r : Bool} {rest : List ℕ} → (length s ≡ 0 → ⊥) → t ≡ is_letter (get_or s 0 0) → t ≡ true
-    → rest ≡ trim_start (get_or s 0 0) s → r ≡ only_signs rest → r ≡ is_bare s
+pub bare_some : (s : List ℕ) (c : ℕ) → Some c ≡ slice_get s 0 → (is_letter c && only_signs (trim_start c s)) ≡ is_bare s
 unfolding is_bare
-bare_letter [] h p q e f = absurd (h refl)
-bare_letter (x ∷ xs) h p q e f = rw (sym p ∙ q, ← e) f
+bare_some [] c h = cc
+bare_some (x ∷ xs) c h = let e : c ≡ x = cc in rw e
 
-pub bare_other : (s : List ℕ) {t : Bool} → (length s ≡ 0 → ⊥) → t ≡ is_letter (get_or s 0 0) → t ≡ false → false ≡ is_bare s
-unfolding is_bare
-bare_other [] h p q = absurd (h refl)
-bare_other (x ∷ xs) h p q = rw (sym p ∙ q)
-
--- ---- leading digits are the first run, where that is of digits
-leading_more : (x : ℕ) (xs : List ℕ) → is_digit x ≡ true → take (more x xs) xs ≡ leading xs
-unfolding more leading joins
-leading_more x [] h = refl
-leading_more x (y ∷ ys) h = go (is_digit y) refl (leading_more y ys)
+-- ---- a blank, a point or a `%`
+pub any_forbids : (s : List ℕ) → list_any (λ x. eqb x 32 || eqb x 46 || eqb x 37) s ≡ forbids s
+unfolding forbids contains
+any_forbids [] = refl
+any_forbids (x ∷ xs) =
+    ap (λ t. (eqb x 32 || eqb x 46 || eqb x 37) || t) (any_forbids xs)
+    ∙ go (eqb x 32) (eqb x 46) (eqb x 37) (contains 32 xs) (contains 46 xs) (contains 37 xs)
   where
-    go : (t : Bool) → is_digit y ≡ t → (is_digit y ≡ true → take (more y ys) ys ≡ leading ys)
-        → take (cond (cond (is_digit x) (is_digit y) (is_letter x && eqb y x)) (suc (more y ys)) zero) (y ∷ ys) ≡ cond (is_digit y) (y ∷ leading ys) []
-    go true e ih = rw (h, e) (ap (λ (l : List ℕ). y ∷ l) (ih e))
-    go false e ih = rw (h, e)
+    go : (a b c d e f : Bool) → (((a || b) || c) || (d || (e || f))) ≡ ((a || d) || ((b || e) || (c || f)))
+    go true b c d e f = refl
+    go false true c true e f = refl
+    go false true c false e f = refl
+    go false false true true e f = refl
+    go false false true false true f = refl
+    go false false true false false f = refl
+    go false false false d e f = refl
 
+-- ---- leading digits
 pub leading_prefix : (t : List ℕ) → take (length (leading t)) t ≡ leading t
 unfolding leading
 leading_prefix [] = refl
@@ -79,106 +64,92 @@ leading_prefix (x ∷ xs) = go (is_digit x) (leading_prefix xs)
     go true ih = ap (λ (l : List ℕ). x ∷ l) ih
     go false ih = refl
 
--- the first item of a token: its digits, or something else
-pub record Leads (t : List ℕ) (end : ℕ) (v : Option Value) : Type 0 where
-  pub long : length (leading t) ≡ end
-  pub value : duration_of (leading t) ≡ v
-
-item_by : (x : ℕ) (xs : List ℕ) (d l b : Bool) → is_digit x ≡ d → is_letter x ≡ l → eqb x 32 ≡ b → {v : Option Value} → item_of (x ∷ xs) ≡ Digits v → (is_digit x ≡ true) × (duration_of (x ∷ xs) ≡ v)
-unfolding item_of
-item_by x xs true l b p q s {v} e =
-    let f : Digits (duration_of (x ∷ xs)) ≡ Digits v = rw p at e in
-    (p, cc)
-item_by x xs false true b p q s {v} e = let f : Letters x (suc (length xs)) ≡ Digits v = rw (p, q) at e in (cc, cc)
-item_by x xs false false true p q s {v} e = let f : Blank ≡ Digits v = rw (p, q, s) at e in (cc, cc)
-item_by x xs false false false p q s {v} e = let f : Mark x ≡ Digits v = rw (p, q, s) at e in (cc, cc)
-
-leading_long : (x : ℕ) (xs : List ℕ) → is_digit x ≡ true → length (leading xs) ≡ more x xs
-unfolding more leading joins
-leading_long x [] h = refl
-leading_long x (y ∷ ys) h = go (is_digit y) refl (leading_long y ys)
+-- the digits end at the first byte that is none
+lead_long : (t : List ℕ) → length (leading t) ≡ position_or_len (λ x. not (is_digit x)) t
+unfolding leading
+lead_long t = is_position_or_len (λ l. length (leading l)) (λ x. not (is_digit x)) refl (λ x xs. go (is_digit x) x xs) t
   where
-    go : (t : Bool) → is_digit y ≡ t → (is_digit y ≡ true → length (leading ys) ≡ more y ys)
-        → length (cond (is_digit y) (y ∷ leading ys) []) ≡ cond (cond (is_digit x) (is_digit y) (is_letter x && eqb y x)) (suc (more y ys)) zero
-    go true e ih = rw (h, e) (ap suc (ih e))
-    go false e ih = rw (h, e)
+    go : (b : Bool) (x : ℕ) (xs : List ℕ) → length (cond b (x ∷ leading xs) []) ≡ cond (not b) 0 (1 + length (leading xs))
+    go true x xs = omega arith
+    go false x xs = refl
 
-pub digits_lead : (t : List ℕ) {n : Next} {v : Option Value} → n ≡ next_item t 0 → n.item ≡ Digits v → Leads t n.end v
-unfolding next_item first leading item_of
-digits_lead [] {n} {v} e q =
-    let z : Blank ≡ Digits v = sym (ap (λ (m : Next). m.item) e) ∙ q in
-    record { long = cc; value = cc }
-digits_lead (x ∷ xs) {n} {v} e q =
-    let k : item_of (x ∷ take (more x xs) xs) ≡ Digits v = sym (ap (λ (m : Next). m.item) e) ∙ q in
-    let d = item_by x (take (more x xs) xs) (is_digit x) (is_letter x) (eqb x 32) refl refl refl k in
-    let f : n.end ≡ 0 + suc (more x xs) = ap (λ (m : Next). m.end) e in
-    record {
-      long = rw d.0 (omega (arith, leading_long x xs d.0));
-      value = rw (d.0, ← leading_more x xs d.0) d.1;
-    }
-
-abbrev pub is_digits : Item → Bool
-is_digits (Digits v) = true
-is_digits (Letters c n) = false
-is_digits Blank = false
-is_digits (Mark b) = false
-
-pub no_lead : (t : List ℕ) {n : Next} → n ≡ next_item t 0 → is_digits n.item ≡ false → leading t ≡ []
-unfolding next_item first leading item_of
-no_lead [] {n} e q = refl
-no_lead (x ∷ xs) {n} e q = go (is_digit x) (is_letter x) (eqb x 32) refl (sym (ap (λ (m : Next). is_digits m.item) e) ∙ q)
+pub lead_none : (t : List ℕ) → None ≡ position (λ x. not (is_digit x)) t → length t ≤ length (leading t)
+lead_none t e = go (ltb (position_or_len (λ x. not (is_digit x)) t) (length t)) refl e
   where
-    go : (d l b : Bool) → is_digit x ≡ d → is_digits (cond d (Digits (duration_of (x ∷ take (more x xs) xs))) (cond l (Letters x (suc (length (take (more x xs) xs)))) (cond b Blank (Mark x)))) ≡ false
-        → cond d (x ∷ leading xs) [] ≡ []
-    go true l b p h = cc
-    go false l b p h = refl
+    go : (b : Bool) → ltb (position_or_len (λ x. not (is_digit x)) t) (length t) ≡ b → None ≡ cond b (Some (position_or_len (λ x. not (is_digit x)) t)) None → length t ≤ length (leading t)
+    go true p q = cc
+    go false p q = omega (arith, lead_long t, ltb-false _ _ p)
+
+pub lead_some : (t : List ℕ) (end : ℕ) → Some end ≡ position (λ x. not (is_digit x)) t → (take end t ≡ leading t) × (length (leading t) < length t)
+lead_some t end e = go (ltb (position_or_len (λ x. not (is_digit x)) t) (length t)) refl e
+  where
+    go : (b : Bool) → ltb (position_or_len (λ x. not (is_digit x)) t) (length t) ≡ b → Some end ≡ cond b (Some (position_or_len (λ x. not (is_digit x)) t)) None
+        → (take end t ≡ leading t) × (length (leading t) < length t)
+    go false p q = cc
+    go true p q =
+        let n : end ≡ length (leading t) = (let m : end ≡ position_or_len (λ x. not (is_digit x)) t = cc in m ∙ sym (lead_long t)) in
+        (ap (λ k. take k t) n ∙ leading_prefix t, omega (arith, lead_long t, ltb-true _ _ p))
+
+pub leading_short : (t : List ℕ) → length (leading t) ≤ length t
+leading_short t = omega (arith, length-take (length (leading t)) t, ap length (leading_prefix t))
+
+pub leading_twice : (t : List ℕ) → leading (leading t) ≡ leading t
+unfolding leading
+leading_twice [] = refl
+leading_twice (x ∷ xs) = go (is_digit x) refl (leading_twice xs)
+  where
+    go : (b : Bool) → is_digit x ≡ b → leading (leading xs) ≡ leading xs → leading (cond b (x ∷ leading xs) []) ≡ cond b (x ∷ leading xs) []
+    go true e ih = rw (e, ih)
+    go false e ih = refl
 
 -- ---- what a neighbour offers, by the ways out of the code
-value_long : (v : Option Value) (ds : List ℕ) → length (if_value v ds) ≡ if_some v (length ds)
-value_long None ds = refl
-value_long (Some v) ds = refl
-
 value_none : (v : Option Value) → if_value v [] ≡ []
 value_none None = refl
 value_none (Some v) = refl
 
-pub offer_forbids : (t : List ℕ) {b : Bool} → b ≡ forbids t → b ≡ true → 0 ≡ length (offer_of t)
+pub offer_whole : (t : List ℕ) → length t ≤ length (leading t) → offer_of t ≡ []
 unfolding offer_of
-offer_forbids t p q = rw (sym p ∙ q)
+offer_whole t h = rw (eq-eqb (length (leading t)) (length t) (omega (arith, leading_short t))) (go (forbids t))
+  where
+    go : (b : Bool) → ◌≡◌ {A = List ℕ} (cond b [] []) []
+    go true = refl
+    go false = refl
 
-pub offer_whole : (t : List ℕ) {b : Bool} {end : ℕ} {v : Option Value} → b ≡ forbids t → b ≡ false → Leads t end v → end ≡ length t → 0 ≡ length (offer_of t)
+pub offer_forbids : (t : List ℕ) → forbids t ≡ true → offer_of t ≡ []
 unfolding offer_of
-offer_whole t p q d e = rw (sym p ∙ q, d.long, eq-eqb _ _ e)
+offer_forbids t h = rw h
 
-pub offer_value : (t : List ℕ) {b : Bool} {end r : ℕ} {v : Option Value} → b ≡ forbids t → b ≡ false → Leads t end v → (end ≡ length t → ⊥)
-    → r ≡ if_some v end → r ≡ length (offer_of t)
+pub offer_none : (t : List ℕ) → duration_of (leading t) ≡ None → offer_of t ≡ []
 unfolding offer_of
-offer_value t {b} {end} {r} {v} p q d e s =
-    s ∙ ap (if_some v) (sym d.long) ∙ sym (value_long v (leading t)) ∙ ap (λ (w : Option Value). length (if_value w (leading t))) (sym d.value)
-    ∙ sym (rw (sym p ∙ q, ne_eqb (length (leading t)) (length t) (λ z. e (sym d.long ∙ z))))
-
-offer_nothing : (t : List ℕ) → leading t ≡ [] → offer_of t ≡ []
-unfolding offer_of
-offer_nothing t e = rw (e, value_none (duration_of [])) (go (forbids t) (eqb 0 (length t)))
+offer_none t h = rw h (go (forbids t) (eqb (length (leading t)) (length t)))
   where
     go : (a b : Bool) → ◌≡◌ {A = List ℕ} (cond a [] (cond b [] [])) []
     go true b = refl
     go false true = refl
     go false false = refl
 
-pub offer_none : (t : List ℕ) → leading t ≡ [] → 0 ≡ length (offer_of t)
-offer_none t e = sym (ap length (offer_nothing t e))
+pub offer_some : (t : List ℕ) (v : Value) → forbids t ≡ false → length (leading t) < length t → duration_of (leading t) ≡ Some v → leading t ≡ offer_of t
+unfolding offer_of
+offer_some t v p q h = rw (p, ne_eqb (length (leading t)) (length t) (λ e. omega arith), h)
 
--- a token without a byte, or with another byte in front, offers none
-pub offer_empty : (t : List ℕ) → length t ≡ 0 → 0 ≡ length (offer_of t)
-unfolding leading
-offer_empty [] h = offer_none [] refl
-offer_empty (x ∷ xs) h = absurd (omega arith)
+-- no digits have no value
+pub no_value : duration_of [] ≡ None
+unfolding duration_of same_bytes counts digits
+no_value = refl
 
-pub offer_other : (t : List ℕ) {b : Bool} → (length t ≡ 0 → ⊥) → b ≡ is_digit (get_or t 0 0) → b ≡ false → 0 ≡ length (offer_of t)
-unfolding leading
-offer_other [] h p q = absurd (h refl)
-offer_other (x ∷ xs) h p q = offer_none (x ∷ xs) (rw (sym p ∙ q))
+pub offered : (t : List ℕ) (v : Value) → duration_of (leading t) ≡ Some v → Offered (leading t)
+offered t v h = record {
+  some = go (leading t) h;
+  digits = leading_twice t;
+  valued = rw h;
+}
+  where
+    go : (l : List ℕ) → duration_of l ≡ Some v → length l ≡ 0 → ⊥
+    go [] e z = let n : None ≡ Some v = sym no_value ∙ e in cc
+    go (x ∷ l) e z = omega arith
+
+offer_nothing : (t : List ℕ) → leading t ≡ [] → offer_of t ≡ []
+offer_nothing t e = offer_none t (ap duration_of e ∙ no_value)
 
 -- a bare token begins with a letter
 pub bare_offers : (t : List ℕ) → is_bare t ≡ true → offer_of t ≡ []
@@ -187,13 +158,3 @@ bare_offers [] b = absurd (false≢true b)
 bare_offers (x ∷ xs) b =
     let l : is_letter x ≡ true = (both _ _ b).0 in
     offer_nothing (x ∷ xs) (rw (letter_no_digit x l))
-
-pub offer_prefix : (t : List ℕ) → take (length (offer_of t)) t ≡ offer_of t
-unfolding offer_of
-offer_prefix t = go (forbids t) (eqb (length (leading t)) (length t)) (duration_of (leading t))
-  where
-    go : (a b : Bool) (v : Option Value) → take (length (cond a [] (cond b [] (if_value v (leading t))))) t ≡ cond a [] (cond b [] (if_value v (leading t)))
-    go true b v = refl
-    go false true v = refl
-    go false false None = refl
-    go false false (Some v) = leading_prefix t

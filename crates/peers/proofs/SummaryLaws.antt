@@ -1,4 +1,4 @@
--- Request E2: each bare column gets from the summary what `uniform_peer_reciprocal` finds.
+-- Each bare column gets from the summary what `uniform_peer_reciprocal` finds.
 use mathlib.Core.Path.{◌≡◌, refl, sym, ap, ◌∙◌}
 use Prim.Native.Nat.{ℕ, zero, suc, ◌+◌, ◌<◌}
 use native.Mathlib.Nat.{not-suc-le-zero, le_of_suc-le-suc}

@@ -1,17 +1,12 @@
 -- The length that a token without one takes from its record: "missing lengths `uniform_peer_reciprocal`".
-use Rattle.std.specs.Prelude.{◌≡◌, ℕ, suc, ◌+◌, ◌≤◌, List, [], ◌∷◌, Bool, true, false, cond, not, ◌&&◌, ◌||◌, eqb, leb, length, Option, Some, None}
+use Rattle.std.specs.Prelude.{◌≡◌, ℕ, suc, List, [], ◌∷◌, Bool, true, false, cond, not, ◌&&◌, ◌||◌, eqb, leb, length, Option, Some, None}
+use Rattle.std.specs.Borrow.{Bor}
 use Rattle.slices.specs.Compare.{same_bytes}
-use Rattle.slices.specs.Split.{piece_at}
 use Rattle.duration.specs.Duration.{duration_of}
 use Rattle.duration.specs.declared.Value.{Value}
 use Rattle.notation.specs.Bytes.{contains, trim_start}
 use Rattle.items.specs.Items.{is_digit, is_letter}
 use Rattle.token.specs.Token.{signs}
-use Rattle.peers.specs.declared.Peer.{Peer}
-use Rattle.peers.specs.declared.Peer.TheVariants.{Nothing, At}
-use Rattle.peers.specs.declared.Found.{Found}
-use Rattle.peers.specs.declared.Found.TheVariants.{Empty, One, More, Broken}
-use Rattle.peers.specs.declared.Summary.{Summary}
 
 -- ---- `plain_pitch_without_duration`: one run of a letter, followed by nothing but signs
 unfoldable pub only_signs : List ℕ → Bool
@@ -67,10 +62,16 @@ unfoldable pub kern_cells : List ℕ → List Bool
 kern_cells [] = []
 kern_cells (c ∷ cs) = leb 8 c ∷ kern_cells cs
 
--- the piece of the line that an answer names
-abbrev pub digits_at : List ℕ → Peer → List ℕ
-digits_at line Nothing = []
-digits_at line (At at len) = piece_at line at len
+-- the digits of an answer
+abbrev pub digits_of : Option (Bor (List ℕ)) → List ℕ
+digits_of None = []
+digits_of (Some ds) = ds.now
+
+-- what is kept of digits that a token offers: some, all of them digits, with a value
+pub record Offered (ds : List ℕ) : Type 0 where
+  pub some : length ds ≡ 0 → ⊥
+  pub digits : leading ds ≡ ds
+  pub valued : if_value (duration_of ds) ds ≡ ds
 
 -- ---- one neighbour after the other
 pub data Tally : Type 0 where
@@ -89,38 +90,13 @@ met (one ds) t = cond (same_bytes (offer_of t) ds) (more ds) broken
 met (more ds) t = cond (same_bytes (offer_of t) ds) (more ds) broken
 met broken t = broken
 
-abbrev pub tally_at : List ℕ → Found → Tally
-tally_at line Empty = none
-tally_at line (One at len) = one (piece_at line at len)
-tally_at line (More at len) = more (piece_at line at len)
-tally_at line Broken = broken
-
--- digits that some token offers
-pub record Offered (ds : List ℕ) : Type 0 where
-  pub token : List ℕ
-  pub same : ds ≡ offer_of token
-  pub some : length ds ≡ 0 → ⊥
-
--- what was met is offered, and stands inside the line
-abbrev pub Sound : List ℕ → Found → Type 0
-Sound line Empty = Unit
-Sound line (One at len) = Offered (piece_at line at len) × (at + len ≤ length line)
-Sound line (More at len) = Offered (piece_at line at len) × (at + len ≤ length line)
-Sound line Broken = Unit
-
 abbrev pub settled : Tally → List ℕ
 settled none = []
 settled (one ds) = []
 settled (more ds) = ds
 settled broken = []
 
-abbrev pub is_broken : Found → Bool
-is_broken Empty = false
-is_broken (One at len) = false
-is_broken (More at len) = false
-is_broken Broken = true
-
--- ---- request E2: "keep from one pass over the columns a summary whose size doesn't grow with them"
+-- ---- one pass over the columns, by a summary whose size doesn't grow with them
 -- whether a kern column that offers nothing was met, and what the others offer; a second one that offers nothing breaks their agreement
 pub record Agreement : Type 0 where
   pub lacking : Bool
@@ -155,10 +131,3 @@ summary_of ts kern = summed nothing_met (kern_tokens ts kern)
 -- the digits that the summary of a record gives each bare column
 abbrev pub agreed_digits : List (List ℕ) → List Bool → List ℕ
 agreed_digits ts kern = settled (summary_of ts kern).tally
-
-abbrev pub summary_at : List ℕ → Summary → Agreement
-summary_at line s = record { lacking = s.lacking; tally = tally_at line s.found }
-
-abbrev pub if_some : Option Value → ℕ → ℕ
-if_some None n = 0
-if_some (Some v) n = n

@@ -1,308 +1,171 @@
 #![tactic(auto)]
 
 // The length that a token without one takes from its record.
-ghost use Rattle.std.specs.Prelude.{◌≡◌, false, ◌||◌, cond, ◌+◌, ◌≤◌, eqb, leb, length};
-ghost use Rattle.slices.specs.Compare.{same_bytes};
-ghost use Rattle.slices.specs.Split.{piece_at};
+ghost use Rattle.std.specs.Prelude.{◌≡◌, [], MatchOption};
 ghost use Rattle.duration.specs.Duration.{duration_of};
 ghost use Rattle.lines.specs.Tokens.{tokens_of};
-ghost use Rattle.peers.specs.Peers.{only_signs, is_bare, forbids, offer_of, digits_at, met, tally_at, settled, is_broken, if_some, Offered, Sound, kern_cells, column_met, summary_at, agreed_digits};
+ghost use Rattle.slices.specs.Compare.{same_bytes};
+ghost use Rattle.peers.specs.Peers.{only_signs, is_bare, forbids, offer_of, Offered, met, column_met, settled, kern_cells, agreed_digits, digits_of};
 
 use duration::Value;
-use items::Item;
 
-// The digits that the neighbours offer: nothing, or a piece of the line.
+// Digits that a token offers.
 #[derive(Clone, Copy)]
-pub enum Peer {
-    Nothing,
-    At { at: usize, len: usize },
+struct Digits<'a> {
+    bytes: &'a [u8],
+    ghost offered: { Offered bytes.now },
 }
 
-// What was met so far: no neighbour; one, or more, whose digits are that piece of the line; or neighbours that don't agree.
+// What was met so far: no neighbour; one, or more, with their digits; or neighbours that don't agree.
 #[derive(Clone, Copy)]
-pub enum Found {
+enum Found<'a> {
     Empty,
-    One { at: usize, len: usize },
-    More { at: usize, len: usize },
+    One(Digits<'a>),
+    More(Digits<'a>),
     Broken,
 }
 
 // What one pass over the columns keeps: whether a kern column that offers nothing was met, and what the others offer.
 #[derive(Clone, Copy)]
-pub struct Summary {
+struct Summary<'a> {
     lacking: bool,
-    found: Found,
+    found: Found<'a>,
 }
 
 // Whether all bytes are signs.
 fn only_signs(s: &[u8]) -> bool
     ensures { result ≡ only_signs s.now }
 {
-    let mut i = 0;
-    while i < s.len() {
-        if scan::is_sign(s[i]) {
-            i += 1;
-        } else {
-            return false;
-        }
-    }
-    true
+    s.iter().all(|b| scan::is_sign(*b))
 }
 
 // Whether a token is a pitch without a length, with nothing but signs behind it.
 pub fn is_bare(token: &[u8]) -> bool
     ensures { result ≡ is_bare token.now }
 {
-    if token.len() == 0 {
+    let Some(letter) = token.first() else {
         return false;
-    }
-    let c = token[0];
-    if items::is_letter(c) {
-        let rest = notation::bytes::trim_start(token, c);
-        return only_signs(rest);
-    }
-    false
-}
-
-// Whether a byte is a blank, a point or a `%`.
-fn forbidden(b: u8) -> bool
-    ensures { result ≡ (eqb b 32 || (eqb b 46 || eqb b 37)) }
-{
-    if b == b' ' {
-        return true;
-    }
-    if b == b'.' {
-        return true;
-    }
-    b == b'%'
+    };
+    items::is_letter(*letter) && only_signs(notation::bytes::trim_start(token, *letter))
 }
 
 // Whether a blank, a point or a `%` stands in a token.
 fn forbids(token: &[u8]) -> bool
     ensures { result ≡ forbids token.now }
 {
-    let mut i = 0;
-    while i < token.len() {
-        if forbidden(token[i]) {
-            return true;
-        }
-        i += 1;
-    }
-    false
+    token.iter().any(|b| matches!(b, b' ' | b'.' | b'%'))
 }
 
-// How many digits a neighbour that begins with one offers.
-fn offer_digits(token: &[u8]) -> usize
-    ensures { result ≡ length (offer_of token.now) }
+// The digits that a neighbour offers.
+fn offer(token: &[u8]) -> Option<Digits<'_>>
+    ensures { MatchOption result (offer_of token.now ≡ []) (λ o. o.bytes.now ≡ offer_of token.now) }
 {
+    let end = token.iter().position(|b| !items::is_digit(*b))?;
+    let bytes = &token[..end];
+    duration::kern_duration(bytes)?;
     if forbids(token) {
-        return 0;
-    }
-    let next = items::next_item(token, 0);
-    let item = next.item;
-    let end = next.end;
-    match item {
-        Item::Digits(v) => {
-            let whole = end == token.len();
-            if whole {
-                return 0;
-            }
-            return if_value(v, end);
-        }
-        Item::Letters {
-            letter: _,
-            count: _,
-        } => {
-            return 0;
-        }
-        Item::Blank => {
-            return 0;
-        }
-        Item::Mark(_) => {
-            return 0;
-        }
+        None
+    } else {
+        Some(Digits { bytes })
     }
 }
 
-// How many digits a neighbour offers.
-fn offer(token: &[u8]) -> usize
-    ensures { result ≡ length (offer_of token.now) }
-{
-    if token.len() == 0 {
-        return 0;
-    }
-    if items::is_digit(token[0]) {
-        return offer_digits(token);
-    }
-    0
-}
-
-// A number, or 0 for a missing value.
-fn if_value(v: Option<Value>, n: usize) -> usize
-    ensures { result ≡ if_some v n }
-{
-    if v.is_some() { n } else { 0 }
-}
-
-// Whether a neighbour offers the digits of a piece of the line, which another offers.
-fn agrees(line: &[u8], at: usize, len: usize, token: &[u8]) -> bool
-    requires { Offered (piece_at line.now at len) × (at + len ≤ length line.now) }
-    ensures { result ≡ same_bytes (offer_of token.now) (piece_at line.now at len) }
-{
-    let known = &line[at..at + len];
-    let n = known.len();
-    if token.len() <= n {
-        return false;
-    }
-    if items::is_digit(token[n]) {
-        return false;
-    }
-    if slices::begins(token, known) {
-        if forbids(token) {
+impl<'a> Digits<'a> {
+    // Whether a neighbour offers the same digits.
+    fn agrees(&self, token: &[u8]) -> bool
+        ensures { result ≡ same_bytes (offer_of token.now) self.now.bytes.now }
+    {
+        let Some(rest) = token.strip_prefix(self.bytes) else {
             return false;
-        }
-        return true;
-    }
-    false
-}
-
-// One neighbour more: the piece of the line from `from` on, `len` long.
-fn meet(line: &[u8], found: Found, from: usize, len: usize) -> Found
-    requires { Sound line.now found × (from + len ≤ length line.now) }
-    ensures { (tally_at line.now result ≡ met (tally_at line.now found) (piece_at line.now from len)) × Sound line.now result }
-{
-    let token = &line[from..from + len];
-    match found {
-        Found::Empty => {
-            let n = offer(token);
-            if n == 0 {
-                return Found::Broken;
-            }
-            return Found::One { at: from, len: n };
-        }
-        Found::One { at, len: width } => {
-            if agrees(line, at, width, token) {
-                return Found::More { at, len: width };
-            }
-            return Found::Broken;
-        }
-        Found::More { at, len: width } => {
-            if agrees(line, at, width, token) {
-                return Found::More { at, len: width };
-            }
-            return Found::Broken;
-        }
-        Found::Broken => {
-            return Found::Broken;
-        }
+        };
+        let Some(next) = rest.first() else {
+            return false;
+        };
+        !items::is_digit(*next) && !forbids(token)
     }
 }
 
-// Whether neighbours that don't agree were met.
-fn is_broken(found: Found) -> bool
-    ensures { result ≡ is_broken found }
-{
-    match found {
-        Found::Empty => false,
-        Found::One { at: _, len: _ } => false,
-        Found::More { at: _, len: _ } => false,
-        Found::Broken => true,
+impl<'a> Found<'a> {
+    ghost use Rattle.peers.specs.Found.{tally_of};
+
+    // One neighbour more.
+    fn meet(self, token: &'a [u8]) -> Found<'a>
+        ensures { tally_of result ≡ met (tally_of self.entry) token.now }
+    {
+        match self {
+            Found::Empty => match offer(token) {
+                Some(digits) => Found::One(digits),
+                None => Found::Broken,
+            },
+            Found::One(digits) | Found::More(digits) => {
+                if digits.agrees(token) {
+                    Found::More(digits)
+                } else {
+                    Found::Broken
+                }
+            }
+            Found::Broken => Found::Broken,
+        }
+    }
+
+    // The digits that more than one neighbour offers, if all do.
+    fn settle(self) -> Option<&'a [u8]>
+        ensures { digits_of result ≡ settled (tally_of self.entry) }
+    {
+        match self {
+            Found::More(digits) => Some(digits.bytes),
+            _ => None,
+        }
     }
 }
 
-// One kern column more, while none was met that offers nothing.
-fn first_lacking(line: &[u8], found: Found, from: usize, len: usize) -> Summary
-    requires { Sound line.now found × (from + len ≤ length line.now) }
-    ensures { (summary_at line.now result ≡ column_met false (tally_at line.now found) (piece_at line.now from len)) × Sound line.now result.found }
-{
-    let next = meet(line, found, from, len);
-    if is_broken(next) {
-        let token = &line[from..from + len];
-        if offer(token) == 0 {
+impl<'a> Summary<'a> {
+    ghost use Rattle.peers.specs.Found.{tally_of, agreement_of};
+
+    // One kern column more. The first that offers nothing is left out.
+    fn pass(self, token: &'a [u8]) -> Summary<'a>
+        ensures { agreement_of result ≡ column_met self.entry.lacking (tally_of self.entry.found) token.now }
+    {
+        let found = self.found.meet(token);
+        if !self.lacking && matches!(found, Found::Broken) && offer(token).is_none() {
             return Summary {
                 lacking: true,
-                found,
+                ..self
             };
         }
-        return Summary {
-            lacking: false,
-            found: next,
-        };
-    }
-    Summary {
-        lacking: false,
-        found: next,
-    }
-}
-
-// One column more: only kern columns count.
-fn pass(line: &[u8], summary: Summary, from: usize, len: usize, cell: u16) -> Summary
-    requires { Sound line.now summary.found × (from + len ≤ length line.now) }
-    ensures { (summary_at line.now result ≡ cond (leb 8 cell) (column_met summary.lacking (tally_at line.now summary.found) (piece_at line.now from len)) (summary_at line.now summary)) × Sound line.now result.found }
-{
-    let outside = cell < 8;
-    if outside {
-        return summary;
-    }
-    let found = summary.found;
-    if summary.lacking {
-        let next = meet(line, found, from, len);
-        return Summary {
-            lacking: true,
-            found: next,
-        };
-    }
-    first_lacking(line, found, from, len)
-}
-
-// The answer of what was met.
-fn settle(line: &[u8], found: Found) -> Peer
-    ensures { digits_at line.now result ≡ settled (tally_at line.now found) }
-{
-    match found {
-        Found::Empty => Peer::Nothing,
-        Found::One { at: _, len: _ } => Peer::Nothing,
-        Found::More { at, len } => Peer::At { at, len },
-        Found::Broken => Peer::Nothing,
+        Summary { found, ..self }
     }
 }
 
 // The digits that a record gives each of its bare columns, by one pass over its columns. A cell of the row is below 8 for a spine outside kern.
-pub fn agreed_reciprocal(line: &[u8], row: &[u16]) -> Peer
-    ensures { digits_at line.now result ≡ agreed_digits (tokens_of line.now) (kern_cells row.now) }
+pub fn agreed_reciprocal<'a>(line: &'a [u8], row: &[u16]) -> Option<&'a [u8]>
+    ensures { digits_of result ≡ agreed_digits (tokens_of line.now) (kern_cells row.now) }
 {
     let mut summary = Summary {
         lacking: false,
         found: Found::Empty,
     };
     let mut from = 0;
-    let mut i = 0;
-    while i < row.len() {
-        let found = summary.found;
+    for cell in row {
         if line.len() < from {
-            return settle(line, found);
+            return summary.found.settle();
         }
-        if is_broken(found) {
-            return Peer::Nothing;
+        if matches!(summary.found, Found::Broken) {
+            return None;
         }
         let end = lines::token_end(line, from);
-        summary = pass(line, summary, from, end - from, row[i]);
+        let in_kern = 8 <= *cell;
+        if in_kern {
+            summary = summary.pass(&line[from..end]);
+        }
         from = end + 1;
-        i += 1;
     }
-    let found = summary.found;
-    settle(line, found)
+    summary.found.settle()
 }
 
 // The value of those digits, None where there are none.
 pub fn agreed_duration(line: &[u8], row: &[u16]) -> Option<Value>
     ensures { result ≡ duration_of (agreed_digits (tokens_of line.now) (kern_cells row.now)) }
 {
-    match agreed_reciprocal(line, row) {
-        Peer::Nothing => None,
-        Peer::At { at, len } => {
-            let digits = slices::piece(line, at, len);
-            duration::kern_duration(digits)
-        }
-    }
+    agreed_reciprocal(line, row).and_then(duration::kern_duration)
 }

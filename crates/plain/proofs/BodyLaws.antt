@@ -16,9 +16,11 @@ use Rattle.items.specs.declared.Item.{Item}
 use Rattle.items.specs.declared.Item.TheVariants.{Letters}
 use Rattle.token.specs.Token.{bad_length, up_to_blank, marks, count_of, grace_from, begun, heard, any_of, passes, signifiers}
 use Rattle.token.specs.declared.pitches.Tone.{Tone}
-use Rattle.std.specs.Prelude.{Option, Some, None}
+use Rattle.std.specs.Prelude.{Option, Some, None, unwrap_or}
+use Rattle.std.specs.Option.{is_none}
+use Rattle.plain.specs.declared.TheConstants.{SILENT}
 use Rattle.items.proofs.NextLaws.{letter_no_digit}
-use Rattle.plain.specs.Usual.{unknown_bytes, mark_bytes, sign_bytes, all_in, carried, Said, said_by, PitchOf, SoundOf, rests, sings}
+use Rattle.plain.specs.Usual.{unknown_bytes, mark_bytes, sign_bytes, all_in, carried, Said, said_by, PitchOf, SoundOf}
 use Rattle.plain.proofs.PieceLaws.{carried_append}
 use Rattle.plain.proofs.ByteLaws.{each, each_in}
 use Rattle.plain.proofs.ItemLaws.{single, marked, begins, items_marks, items_letters, letter_of, not_letter}
@@ -181,6 +183,6 @@ body_pitch bytes post t h m =
     let w : each (λ x. eqb x h.letter) (h.letter ∷ []) ≡ true = rw (eq-eqb h.letter h.letter refl) in
     rw h.parts (body_run h.letter h.run h.signs post t (each_in (λ x. eqb x h.letter) (h.letter ∷ []) h.run w h.letters) h.place h.signed h.alter m)
 
-pub body_of : {bytes : List ℕ} {rest : Bool} {t : Tone} (post : List ℕ) → SoundOf bytes rest t → all_in mark_bytes post ≡ true → Body bytes rest t post
-body_of {bytes} {rest} {t} post (rests e q) m = rw (e, q) (body_rest post m t)
-body_of {bytes} {rest} {t} post (sings h q) m = rw q (body_pitch bytes post t h m)
+pub body_of : {bytes : List ℕ} (post : List ℕ) (sound : Option Tone) → SoundOf bytes sound → all_in mark_bytes post ≡ true → Body bytes (is_none sound) (unwrap_or sound SILENT) post
+body_of post None e m = rw e (body_rest post m SILENT)
+body_of {bytes} post (Some t) h m = body_pitch bytes post t h m

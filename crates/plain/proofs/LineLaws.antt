@@ -18,15 +18,16 @@ use Rattle.duration.specs.declared.Value.{Value}
 use Rattle.notation.specs.Bytes.{contains}
 use Rattle.pitch.specs.Pitch.{pitch_of}
 use Rattle.pitch.specs.declared.Pitch.{Pitch}
-use Rattle.std.specs.Prelude.{Option, Some}
+use Rattle.std.specs.Prelude.{Option, Some, None, unwrap_or}
+use Rattle.std.specs.Option.{is_none}
+use Rattle.plain.specs.declared.TheConstants.{SILENT}
 use Rattle.plain.specs.Plain.{ShapeAt}
-use Rattle.plain.specs.Usual.{digit_bytes, digit_by, all_in, Run, opened, Said, said_by, carried, Marking, Numbering, Signing, rests, sings, SungAt, Parts, Closed, Tail, TailAt}
+use Rattle.plain.specs.Usual.{digit_bytes, digit_by, all_in, Run, opened, Said, said_by, carried, Marking, Numbering, Signing, SungAt, Parts, Closed, Tail}
 use Rattle.plain.specs.declared.Opening.{Opening}
 use Rattle.plain.specs.declared.Valued.{Valued}
-use Rattle.plain.specs.declared.Sung.{Sung}
 use Rattle.plain.specs.declared.Plain.{Plain}
-use Rattle.plain.specs.declared.Shape.{Shape}
-use Rattle.plain.specs.declared.Shape.TheVariants.{Other, Null, Note}
+use Rattle.plain.specs.declared.Shape.TheVariants.{Null, Note}
+use Rattle.token.specs.Outcome.{noted}
 use Rattle.plain.proofs.PieceLaws.{piece_none, piece_join, piece_more, piece_length}
 use Rattle.plain.proofs.ByteLaws.{each, each_in}
 use Rattle.plain.proofs.AspectLaws.{each_head, each_tail, differs}
@@ -72,24 +73,18 @@ null_shape line from h e c =
     (end_is line from (from + 1) (omega arith) (omega arith) (ap (each (differs 9)) p) c, ap is_null p)
 
 -- ---- a rest, or a pitch
-pub sung_rest : (line : List ℕ) (from : ℕ) (s : Sung) → from < length line → get_or line from 0 ≡ 114 → s.rest ≡ true → s.end ≡ from + 1
-    → SungAt line from s
-sung_rest line from s h e r q =
-    record {
-      low = omega arith;
-      high = omega arith;
-      sound = rests (ap (λ (m : ℕ). piece_at line from (m - from)) q ∙ piece_one line from h ∙ ap (λ (x : ℕ). x ∷ []) e) r;
-    }
+pub sung_rest : (line : List ℕ) (from : ℕ) → from < length line → get_or line from 0 ≡ 114 → SungAt line from (record { tone = None; end = from + 1 })
+sung_rest line from h e = record { low = omega arith; high = omega arith; sound = piece_one line from h ∙ ap (λ (x : ℕ). x ∷ []) e }
 
 pub sung_pitch : {line : List ℕ} {from to c step octave alter end : ℕ} {p : Option Pitch} → Run (c ∷ []) line from to → Signing line to alter end
     → p ≡ pitch_of c (to - from) → p ≡ Some (record { step = step; octave = octave })
-    → SungAt line from (record { no = false; rest = false; tone = record { step = step; octave = octave; alter = alter }; end = end })
+    → SungAt line from (record { tone = Some (record { step = step; octave = octave; alter = alter }); end = end })
 sung_pitch {line} {from} {to} {c} {step} {octave} {alter} {end} {p} r s e q =
     record {
       low = omega (arith, r.low, s.run.low);
       high = s.run.high;
       sound =
-          sings (record {
+          record {
             letter = c;
             run = piece_at line from (to - from);
             signs = piece_at line to (end - to);
@@ -98,7 +93,7 @@ sung_pitch {line} {from} {to} {c} {step} {octave} {alter} {end} {p} r s e q =
             place = ap (pitch_of c) (piece_length line from to r.low r.high) ∙ sym e ∙ q;
             signed = s.run.inside;
             alter = s.same;
-          }) refl;
+          };
     }
 
 -- ---- the length that digits write
@@ -122,15 +117,15 @@ reciprocal_value {line} {from} {n} {end} r h =
     h ds (digits_in_lem ds r.run.inside) (sym (number_by 0 ds) ∙ r.same) (piece_length line from end r.run.low r.run.high)
 
 -- ---- a note
-module _ {line : List ℕ} {from digits to sound : ℕ} (opening : Opening) (v : Valued) (o : Marking line from (opened false false) (opened opening.ties opening.slurs) digits) (d : Run digit_bytes line digits to) (some : digits < to) (parts : Parts (duration_of (piece_at line digits (to - digits))) v) (found : v.missing ≡ false) (dot : Run (46 ∷ []) line to sound) (few : sound - to ≤ 3) where
-  note_shape : (p : Plain) → Tail line sound opening v (sound - to) p → ShapeAt line from (Note p)
+module _ {line : List ℕ} {from digits to sound : ℕ} (opening : Opening) (v : Valued) (o : Marking line from (opened false false) (opened opening.ties opening.slurs) digits) (d : Run digit_bytes line digits to) (some : digits < to) {value : Value} (written : duration_of (piece_at line digits (to - digits)) ≡ Some value) (parts : Parts value v) (dot : Run (46 ∷ []) line to sound) (few : sound - to ≤ 3) where
+  pub note_shape : (p : Plain) → Tail line sound opening v (sound - to) p → ShapeAt line from (Note p)
   note_shape p h =
       let pre : List ℕ = piece_at line from (digits - from) in
       let ds : List ℕ = piece_at line digits (to - digits) in
       let dots : List ℕ = piece_at line to (sound - to) in
       let bytes : List ℕ = piece_at line sound (h.sung.end - sound) in
       let post : List ℕ = piece_at line h.sung.end (p.end - h.sung.end) in
-      let b : Body bytes h.sung.rest h.sung.tone post = body_of post h.sound.sound h.marks.run.inside in
+      let b : Body bytes (is_none h.sung.tone) (unwrap_or h.sung.tone SILENT) post = body_of post h.sung.tone h.sound.sound h.marks.run.inside in
       let whole : piece_at line from (p.end - from) ≡ pre ++ (ds ++ (dots ++ (bytes ++ post))) =
       piece_join line from digits p.end o.run.low (omega (arith, d.low, dot.low, h.sound.low, h.marks.run.low))
       ∙ ap (λ (l : List ℕ). pre ++ l)
@@ -142,14 +137,9 @@ module _ {line : List ℕ} {from digits to sound : ℕ} (opening : Opening) (v :
       let k : length dots ≡ sound - to = piece_length line to sound dot.low dot.high in
       let more : 0 < length ds = omega arith in
       let less : length dots ≤ 3 = omega arith in
-      let tab = tabless pre ds dots bytes post h.sung.rest h.sung.tone o.run.inside d.inside more dot.inside less b in
+      let tab = tabless pre ds dots bytes post (is_none h.sung.tone) (unwrap_or h.sung.tone SILENT) o.run.inside d.inside more dot.inside less b in
       let s : carried said_by (carried said_by (opened false false) pre) post ≡ h.said = ap (λ (u : Said). carried said_by u post) o.same ∙ h.marks.same in (
         end_is line from p.end (omega (arith, o.run.low, d.low, dot.low, h.sound.low, h.marks.run.low)) h.marks.run.high (ap (each (differs 9)) whole ∙ tab) h.closed,
         rw whole
-            (plain_token pre ds dots bytes post h.sung.rest h.sung.tone o.run.inside d.inside more dot.inside less b h.said s v (parts found) p (rw k h.note) h.tone h.starts h.ends h.unknown),
+            (plain_token pre ds dots bytes post (is_none h.sung.tone) (unwrap_or h.sung.tone SILENT) o.run.inside d.inside more dot.inside less b h.said s v (λ w. ap (λ (u : Option Value). noted u w) written ∙ parts w) p (rw k h.note) h.tone h.starts h.ends h.unknown),
       )
-
-  pub shape_is : (r : Shape) → TailAt line sound opening v (sound - to) r → ShapeAt line from r
-  shape_is Other h = tt
-  shape_is (Null end) h = absurd h
-  shape_is (Note p) h = note_shape p h

@@ -9,7 +9,7 @@ use Rattle.token.specs.Scan.{scan_of}
 use Rattle.token.specs.Outcome.{outcome_of, reported, note_pitches}
 use Rattle.plain.specs.declared.Plain.{Plain}
 use Rattle.plain.specs.declared.Shape.{Shape}
-use Rattle.plain.specs.declared.Shape.TheVariants.{Other, Null, Note}
+use Rattle.plain.specs.declared.Shape.TheVariants.{Null, Note}
 
 -- a token that gives a note, whatever its peers give; a rest has no pitch, any other note one; only an unknown one has signifiers to report
 pub record PlainToken (token : List ℕ) (p : Plain) : Type 0 where
@@ -21,8 +21,7 @@ pub record PlainToken (token : List ℕ) (p : Plain) : Type 0 where
   pub counted : p.note.pitches ≡ cond p.note.rest 0 1
   pub sounds : is_null token ≡ false
 
--- what is said of the token of a line that begins at an index: nothing, that it is null, or its note; and where it ends
+-- what is said of the token of a line that begins at an index: that it is null, or its note; and where it ends
 abbrev pub ShapeAt : List ℕ → ℕ → Shape → Type 0
-ShapeAt line from Other = Unit {0}
 ShapeAt line from (Null end) = (end ≡ piece_end 9 line from) × (is_null (piece_at line from (end - from)) ≡ true)
 ShapeAt line from (Note p) = (p.end ≡ piece_end 9 line from) × PlainToken (piece_at line from (p.end - from)) p

@@ -1,5 +1,6 @@
 -- The parts of a token of the usual shape: runs of bytes out of a word, and what they say.
-use Rattle.std.specs.Prelude.{◌≡◌, ℕ, ◌+◌, ◌-◌, ◌*◌, ◌≤◌, ◌<◌, List, [], ◌∷◌, ◌++◌, Bool, true, false, cond, ◌&&◌, ◌||◌, eqb, ltb, length, get_or, Option, Some, Ok}
+use Rattle.std.specs.Prelude.{◌≡◌, ℕ, ◌+◌, ◌-◌, ◌*◌, ◌≤◌, ◌<◌, List, [], ◌∷◌, ◌++◌, Bool, true, false, cond, ◌&&◌, ◌||◌, eqb, ltb, length, get_or, Option, Some, None, Ok, unwrap_or}
+use Rattle.std.specs.Option.{is_none}
 use Rattle.slices.specs.Ascii.{ascii}
 use Rattle.slices.specs.Split.{piece_at}
 use Rattle.notation.specs.Bytes.{contains}
@@ -15,8 +16,7 @@ use Rattle.plain.specs.declared.Marked.{Marked}
 use Rattle.plain.specs.declared.Valued.{Valued}
 use Rattle.plain.specs.declared.Sung.{Sung}
 use Rattle.plain.specs.declared.Plain.{Plain}
-use Rattle.plain.specs.declared.Shape.{Shape}
-use Rattle.plain.specs.declared.Shape.TheVariants.{Other, Null, Note as NoteAt}
+use Rattle.plain.specs.declared.TheConstants.{SILENT}
 
 abbrev pub digit_bytes : List ℕ
 digit_bytes = ascii "0123456789"
@@ -119,18 +119,18 @@ pub record PitchOf (bytes : List ℕ) (t : Tone) : Type 0 where
   pub signed : all_in sign_bytes signs ≡ true
   pub alter : carried altered_by 128 signs ≡ t.alter
 
-pub data SoundOf (bytes : List ℕ) (rest : Bool) (t : Tone) : Type 0 where
-  rests : bytes ≡ 114 ∷ [] → rest ≡ true → SoundOf bytes rest t
-  sings : PitchOf bytes t → rest ≡ false → SoundOf bytes rest t
+abbrev pub SoundOf : List ℕ → Option Tone → Type 0
+SoundOf bytes None = bytes ≡ 114 ∷ []
+SoundOf bytes (Some t) = PitchOf bytes t
 
 pub record SungAt (line : List ℕ) (from : ℕ) (s : Sung) : Type 0 where
   pub low : from ≤ s.end
   pub high : s.end ≤ length line
-  pub sound : SoundOf (piece_at line from (s.end - from)) s.rest s.tone
+  pub sound : SoundOf (piece_at line from (s.end - from)) s.tone
 
 -- ---- the length
-abbrev pub Parts : Option Value → Valued → Type 0
-Parts v r = r.missing ≡ false → (s : Scan) → noted v s ≡ Ok (Some (note_of false r.value r.actual r.normal s))
+abbrev pub Parts : Value → Valued → Type 0
+Parts v r = (s : Scan) → noted (Some v) s ≡ Ok (Some (note_of false r.value r.actual r.normal s))
 
 -- ---- the note of a rest or of one pitch: a rest has no ties and no pitches
 abbrev pub note_from : Valued → ℕ → Bool → Said → Note
@@ -162,13 +162,8 @@ pub record Tail (line : List ℕ) (from : ℕ) (opening : Opening) (v : Valued) 
   pub sound : SungAt line from sung
   pub marks : Marking line sung.end (opened opening.ties opening.slurs) said p.end
   pub closed : Closed line p.end
-  pub note : p.note ≡ note_from v dots sung.rest said
-  pub tone : p.tone ≡ sung.tone
+  pub note : p.note ≡ note_from v dots (is_none sung.tone) said
+  pub tone : p.tone ≡ unwrap_or sung.tone SILENT
   pub starts : p.starts ≡ said.starts
   pub ends : p.ends ≡ said.ends
   pub unknown : p.unknown ≡ said.unknown
-
-abbrev pub TailAt : List ℕ → ℕ → Opening → Valued → ℕ → Shape → Type 0
-TailAt line from opening v dots Other = Unit {0}
-TailAt line from opening v dots (Null end) = ⊥
-TailAt line from opening v dots (NoteAt p) = Tail line from opening v dots p

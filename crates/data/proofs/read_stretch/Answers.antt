@@ -21,7 +21,7 @@ pub loop-i-preserved-then-cell-lt8 : goal.loop-i-preserved-then-cell-lt8
 loop-i-preserved-then-cell-lt8 c = (omega (arith, c.loop-i.invariant.0), λ offset. outside_turn (c.loop-i.invariant.1 offset) c.loop-i-test.true c.if-line-from.false c.if-cell-lt8.true c.token_end-from.ensures)
 
 pub overflow_add-from-in-Null : goal.overflow_add-from-in-Null
-overflow_add-from-in-Null c = let p = piece_at_lem c.if-line-from.false (null_end _ _ _ c.shape_of-shape.ensures c.in-Null.is) in omega (arith, p.high, c.requires.1.0)
+overflow_add-from-in-Null c = let p = piece_at_lem c.if-line-from.false (null_end _ _ _ c.in-Some.ensures c.in-Null.is) in omega (arith, p.high, c.requires.1.0)
 
 pub overflow_add-i-in-Null : goal.overflow_add-i-in-Null
 overflow_add-i-in-Null c = omega (arith, c.loop-i-test.true, c.requires.0.cells_long)
@@ -30,28 +30,28 @@ pub loop-i-smaller-in-Null : goal.loop-i-smaller-in-Null
 loop-i-smaller-in-Null c = omega (arith, c.loop-i-test.true)
 
 pub loop-i-preserved-in-Null : goal.loop-i-preserved-in-Null
-loop-i-preserved-in-Null c = (omega (arith, c.loop-i.invariant.0), λ offset. null_turn (c.loop-i.invariant.1 offset) c.loop-i-test.true c.if-line-from.false c.shape_of-shape.ensures c.in-Null.is)
+loop-i-preserved-in-Null c = (omega (arith, c.loop-i.invariant.0), λ offset. null_turn (c.loop-i.invariant.1 offset) c.loop-i-test.true c.if-line-from.false c.in-Some.ensures c.in-Null.is)
 
 pub slice_bounds-token-count : goal.slice_bounds-token-count
-slice_bounds-token-count c = let p = piece_at_lem c.if-line-from.false (note_end _ _ _ c.shape_of-shape.ensures c.in-Note.is) in omega (arith, p.low, p.high)
+slice_bounds-token-count c = let p = piece_at_lem c.if-line-from.false (note_end _ _ _ c.in-Some.ensures c.in-Note.is) in omega (arith, p.low, p.high)
 
 pub slice_bounds-token-start : goal.slice_bounds-token-start
-slice_bounds-token-start c = let p = piece_at_lem c.if-line-from.false (note_end _ _ _ c.shape_of-shape.ensures c.in-Note.is) in omega (arith, p.low, p.high)
+slice_bounds-token-start c = let p = piece_at_lem c.if-line-from.false (note_end _ _ _ c.in-Some.ensures c.in-Note.is) in omega (arith, p.low, p.high)
 
 pub slice_bounds-token-end : goal.slice_bounds-token-end
-slice_bounds-token-end c = let p = piece_at_lem c.if-line-from.false (note_end _ _ _ c.shape_of-shape.ensures c.in-Note.is) in omega (arith, p.low, p.high)
+slice_bounds-token-end c = let p = piece_at_lem c.if-line-from.false (note_end _ _ _ c.in-Some.ensures c.in-Note.is) in omega (arith, p.low, p.high)
 
 pub spot_at-spot-requires : goal.spot_at-spot-requires
 spot_at-spot-requires c = (c.if-cell-lt8.false, omega (arith, c.loop-i-test.true, c.requires.0.cells_long))
 
 pub write_plain-at-requires : goal.write_plain-at-requires
-write_plain-at-requires c = let z = note_end _ _ _ c.shape_of-shape.ensures c.in-Note.is in let p = piece_at_lem c.if-line-from.false z in (rw c.spot_at-spot.ensures (note_sited (c.loop-i.invariant.1 0) c.loop-i-test.true c.if-line-from.false c.requires.0 c.requires.1.0 p.low p.high c.if-cell-lt8.false (c.at_once.ensures (c.if-not-at_once.false)).line), note_column _ (record { index = c.loop-i.i; from = c.loop-i.from; end = c.in-Note.p.end; line = c.args.number; offset = 0 }) _ c.shape_of-shape.ensures z c.in-Note.is)
+write_plain-at-requires c = let z = note_end _ _ _ c.in-Some.ensures c.in-Note.is in let p = piece_at_lem c.if-line-from.false z in (rw c.spot_at-spot.ensures (note_sited (c.loop-i.invariant.1 0) c.loop-i-test.true c.if-line-from.false c.requires.0 c.requires.1.0 p.low p.high c.if-cell-lt8.false (c.at_once.ensures (c.if-not-at_once.false)).line), note_column _ (record { index = c.loop-i.i; from = c.loop-i.from; end = c.in-Note.p.end; line = c.args.number; offset = 0 }) _ c.in-Some.ensures z c.in-Note.is)
 
 pub overflow_add-notes : goal.overflow_add-notes
 overflow_add-notes c = omega (arith, (c.at_once.ensures (c.if-not-at_once.false)).few)
 
 pub overflow_add-from-in-Note : goal.overflow_add-from-in-Note
-overflow_add-from-in-Note c = let p = piece_at_lem c.if-line-from.false (note_end _ _ _ c.shape_of-shape.ensures c.in-Note.is) in omega (arith, p.high, c.requires.1.0)
+overflow_add-from-in-Note c = let p = piece_at_lem c.if-line-from.false (note_end _ _ _ c.in-Some.ensures c.in-Note.is) in omega (arith, p.high, c.requires.1.0)
 
 pub overflow_add-i-in-Note : goal.overflow_add-i-in-Note
 overflow_add-i-in-Note c = omega (arith, c.loop-i-test.true, c.requires.0.cells_long)
@@ -60,7 +60,7 @@ pub loop-i-smaller : goal.loop-i-smaller
 loop-i-smaller c = omega (arith, c.loop-i-test.true)
 
 pub loop-i-preserved : goal.loop-i-preserved
-loop-i-preserved c = (omega (arith, c.loop-i.invariant.0), λ offset. note_turn (c.loop-i.invariant.1 offset) c.loop-i-test.true c.if-line-from.false c.shape_of-shape.ensures c.in-Note.is c.if-cell-lt8.false (c.at_once.ensures (c.if-not-at_once.false)) c.spot_at-spot.ensures c.write_plain-at.ensures c.write_plain-at.auto.parts c.write_plain-at.auto.out)
+loop-i-preserved c = (omega (arith, c.loop-i.invariant.0), λ offset. note_turn (c.loop-i.invariant.1 offset) c.loop-i-test.true c.if-line-from.false c.in-Some.ensures c.in-Note.is c.if-cell-lt8.false (c.at_once.ensures (c.if-not-at_once.false)) c.spot_at-spot.ensures c.write_plain-at.ensures c.write_plain-at.auto.parts c.write_plain-at.auto.out)
 
 pub shape_of-parts-after-loop-i : goal.shape_of-parts-after-loop-i
 shape_of-parts-after-loop-i c = (c.loop-i.invariant.1 0).long
@@ -80,14 +80,14 @@ shape_of-out-then-line-from c = (c.loop-i.invariant.1 0).wide
 pub returns-then-line-from : goal.returns-then-line-from
 returns-then-line-from c = λ offset. stretch_ends c.loop-i.invariant.0 (c.loop-i.invariant.1 offset)
 
-pub shape_of-parts-in-Other : goal.shape_of-parts-in-Other
-shape_of-parts-in-Other c = (c.loop-i.invariant.1 0).long
+pub shape_of-parts-in_default : goal.shape_of-parts-in_default
+shape_of-parts-in_default c = (c.loop-i.invariant.1 0).long
 
-pub shape_of-out-in-Other : goal.shape_of-out-in-Other
-shape_of-out-in-Other c = (c.loop-i.invariant.1 0).wide
+pub shape_of-out-in_default : goal.shape_of-out-in_default
+shape_of-out-in_default c = (c.loop-i.invariant.1 0).wide
 
-pub returns-in-Other : goal.returns-in-Other
-returns-in-Other c = λ offset. stretch_ends c.loop-i.invariant.0 (c.loop-i.invariant.1 offset)
+pub returns-in_default : goal.returns-in_default
+returns-in_default c = λ offset. stretch_ends c.loop-i.invariant.0 (c.loop-i.invariant.1 offset)
 
 pub shape_of-parts-then-not-at_once : goal.shape_of-parts-then-not-at_once
 shape_of-parts-then-not-at_once c = (c.loop-i.invariant.1 0).long

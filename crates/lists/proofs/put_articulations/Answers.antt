@@ -4,8 +4,8 @@ use Rattle.slices.proofs.StoreLaws.{stored_not}
 use Rattle.lists.proofs.CountLaws.{count_articulations}
 use Rattle.lists.proofs.put_articulations.Goals as goal
 
-pub returns-then-out-scan : goal.returns-then-out-scan
-returns-then-out-scan c = sym (stored_not _ _ (rw (count_articulations _ c.scan_token-scan.ensures) at c.if-out-scan.true))
-
 pub fill_articulations-requires : goal.fill_articulations-requires
-fill_articulations-requires c = rw (count_articulations _ c.scan_token-scan.ensures) at c.if-out-scan.false
+fill_articulations-requires c = rw (count_articulations _ c.scan_token-scan.ensures) at c.if-scan-out.true
+
+pub returns-else-scan-out : goal.returns-else-scan-out
+returns-else-scan-out c = sym (stored_not _ _ (rw (count_articulations _ c.scan_token-scan.ensures) at c.if-scan-out.false))

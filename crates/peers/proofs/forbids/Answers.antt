@@ -1,20 +1,14 @@
--- No forbidden byte stands before i: what is left from i on decides.
-use mathlib.Core.Path.{refl}
-use native.Mathlib.Omega.{arith}
-use Rattle.peers.proofs.AgreeLaws.{forbids_turn, forbids_here, forbids_past}
+-- One of three bytes stands anywhere.
+use mathlib.Core.Path.{◌∙◌}
+use mathlib.Core.Bool.{◌||◌}
+use lib.Dec.{eqb}
+use Rattle.std.proofs.Common.{rules, tests}
+use Rattle.std.proofs.lemmas.Iterator.{YieldsList-from_slice}
+use Rattle.std.proofs.lemmas.Iterator.Search.{any_from_yields_List}
+use Rattle.peers.proofs.OfferLaws.{any_forbids}
 use Rattle.peers.proofs.forbids.Goals as goal
 
-pub loop-i-init : goal.loop-i-init
-loop-i-init c = record { high = omega arith; same = refl }
-
-pub forbidden-requires : goal.forbidden-requires
-forbidden-requires c = tt
-
-pub returns-then-forbidden : goal.returns-then-forbidden
-returns-then-forbidden c = forbids_here c.loop-i.invariant c.loop-i-test.true c.forbidden.ensures c.if-forbidden.true
-
-pub loop-i-preserved : goal.loop-i-preserved
-loop-i-preserved c = forbids_turn c.loop-i.invariant c.loop-i-test.true c.forbidden.ensures c.if-forbidden.false
-
 pub returns : goal.returns
-returns c = forbids_past c.loop-i.invariant c.loop-i-test.false
+returns c =
+    any_from_yields_List (λ x. eqb x 32 || eqb x 46 || eqb x 37) _ _ _ c.any.ensures.ran (YieldsList-from_slice c.args.token.now cc) (λ x b q k. search (rules, tests))
+    ∙ any_forbids c.args.token.now

@@ -1,12 +1,17 @@
 -- A letter, and nothing but signs behind its run.
-use Rattle.peers.proofs.OfferLaws.{bare_none, bare_letter, bare_other}
+use Rattle.std.proofs.Common.{rules}
+use Rattle.peers.proofs.OfferLaws.{bare_none, bare_some}
 use Rattle.peers.proofs.is_bare.Goals as goal
 
-pub returns-then-token-eq0 : goal.returns-then-token-eq0
-returns-then-token-eq0 c = bare_none _ c.if-token-eq0.true
+pub returns-in_default : goal.returns-in_default
+returns-in_default c = bare_none c.args.token.now c.in_default.ensures.value
 
 pub returns-then-is_letter : goal.returns-then-is_letter
-returns-then-is_letter c = bare_letter _ c.if-token-eq0.false c.is_letter.ensures c.if-is_letter.true c.trim_start-rest.ensures c.only_signs.ensures
+returns-then-is_letter c =
+    let e = bare_some c.args.token.now _ c.in-Some.ensures.value in
+    search rules
 
-pub returns : goal.returns
-returns c = bare_other _ c.if-token-eq0.false c.is_letter.ensures c.if-is_letter.false
+pub returns-else-is_letter : goal.returns-else-is_letter
+returns-else-is_letter c =
+    let e = bare_some c.args.token.now _ c.in-Some.ensures.value in
+    search rules

@@ -1,20 +1,14 @@
--- All bytes before i are signs: what is left from i on decides.
-use mathlib.Core.Path.{refl}
-use native.Mathlib.Omega.{arith}
-use Rattle.peers.proofs.OfferLaws.{sign_turn, sign_not, sign_past}
+-- Each byte is a sign.
+use mathlib.Core.Path.{◌∙◌}
+use Rattle.std.proofs.Common.{rules, tests}
+use Rattle.std.proofs.lemmas.Iterator.{YieldsList-from_slice}
+use Rattle.std.proofs.lemmas.Iterator.Search.{all_from_yields_List}
+use Rattle.notation.specs.Bytes.{contains}
+use Rattle.token.specs.Token.{signs}
+use Rattle.peers.proofs.OfferLaws.{all_signs}
 use Rattle.peers.proofs.only_signs.Goals as goal
 
-pub loop-i-init : goal.loop-i-init
-loop-i-init c = record { high = omega arith; same = refl }
-
-pub is_sign-requires : goal.is_sign-requires
-is_sign-requires c = tt
-
-pub loop-i-preserved : goal.loop-i-preserved
-loop-i-preserved c = sign_turn c.loop-i.invariant c.loop-i-test.true c.is_sign.ensures c.if-is_sign.true
-
-pub returns-else-is_sign : goal.returns-else-is_sign
-returns-else-is_sign c = sign_not c.loop-i.invariant c.loop-i-test.true c.is_sign.ensures c.if-is_sign.false
-
 pub returns : goal.returns
-returns c = sign_past c.loop-i.invariant c.loop-i-test.false
+returns c =
+    all_from_yields_List (λ x. contains x signs) _ _ _ c.all.ensures.ran (YieldsList-from_slice c.args.s.now cc) (λ x b q k. search (rules, tests))
+    ∙ all_signs c.args.s.now

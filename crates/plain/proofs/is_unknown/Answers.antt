@@ -12,6 +12,7 @@ use Rattle.items.specs.Items.{is_letter}
 use Rattle.token.specs.Token.{is_unknown}
 use Rattle.plain.specs.Usual.{unknown_bytes}
 use Rattle.plain.proofs.is_unknown.Goals as goal
+use Rattle.plain.proofs.is_unknown.Goals.{then-matches, else-matches, in-33-to-126, in_default, in_default-2}
 
 spelled : (b : ℕ) → 33 ≤ b → b ≤ 126 → is_unknown b ≡ true → contains b unknown_bytes ≡ true
 unfolding is_unknown is_letter within contains
@@ -25,14 +26,10 @@ spelled b l h unknown =
     one true false e t = absurd t
     one false false e t = absurd (not_both e refl)
 
-pub returns-then-b-lt33 : goal.returns-then-b-lt33
-returns-then-b-lt33 c = λ e. absurd (not_both e refl)
-
-pub returns-then-b-gt126 : goal.returns-then-b-gt126
-returns-then-b-gt126 c = λ e. absurd (not_both e refl)
-
-pub returns-then-before-gt-FEW : goal.returns-then-before-gt-FEW
-returns-then-before-gt-FEW c = λ e. absurd (not_both e refl)
-
-pub returns : goal.returns
-returns c = λ e. spelled _ c.if-b-lt33.false c.if-b-gt126.false (sym c.is_unknown.ensures ∙ e)
+pub returns-then-before-le-FEW : goal.returns-then-before-le-FEW
+returns-then-before-le-FEW c = λ e.
+    elim c.if-matches-2.branch [
+      | in-33-to-126 w ↦ spelled _ (omega arith) (omega arith) (sym c.is_unknown.ensures ∙ e)
+      | in_default w ↦ elim c.if-matches.branch [ then-matches x ↦ cc | else-matches x ↦ cc ]
+      | in_default-2 w ↦ elim c.if-matches.branch [ then-matches x ↦ cc | else-matches x ↦ cc ]
+    ]

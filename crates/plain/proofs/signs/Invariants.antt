@@ -1,11 +1,6 @@
 -- The bytes up to i are signs, and the alteration is that of all of them.
-use Prim.Native.Nat.{◌-◌}
-use lib.ListN.{length}
 use Rattle.plain.specs.Usual.{Signing}
 use Rattle.plain.proofs.signs.Given as goal
 
 abbrev pub invariant-loop-i : goal.invariant-loop-i
 invariant-loop-i l = Signing l.line l.from l.alter l.i
-
-abbrev pub decreases-loop-i : goal.decreases-loop-i
-decreases-loop-i l = length l.line - l.i
