@@ -51,54 +51,28 @@ pub struct Marks {
     pub articulations: usize,
 }
 
-// Whether a length is bad behind a mark.
-fn bad_mark(l: Lengths, b: u8) -> bool
-    ensures { result ≡ cond (eqb b 37) (l.bad || l.behind) l.bad }
-{
-    if b == b'%' {
-        return slices::either(l.bad, l.behind);
-    }
-    l.bad
-}
-
 // One item more for the lengths: a second run of digits and a `%` right behind digits are bad.
+#[tactic(auto, using(std::proofs::lemmas::Bool::Decides::nat_tests))]
 fn step_lengths(l: Lengths, item: Item) -> Lengths
     ensures { result ≡ step_lengths l item }
 {
     match item {
-        Item::Digits(_) => {
-            let bad = slices::either(l.bad, l.had);
-            return Lengths {
-                had: true,
-                behind: true,
-                bad,
-            };
-        }
-        Item::Letters {
-            letter: _,
-            count: _,
-        } => {
-            return Lengths {
-                had: l.had,
-                behind: false,
-                bad: l.bad,
-            };
-        }
-        Item::Blank => {
-            return Lengths {
-                had: false,
-                behind: false,
-                bad: l.bad,
-            };
-        }
-        Item::Mark(b) => {
-            let bad = bad_mark(l, b);
-            return Lengths {
-                had: l.had,
-                behind: false,
-                bad,
-            };
-        }
+        Item::Digits(_) => Lengths {
+            had: true,
+            behind: true,
+            bad: l.bad || l.had,
+        },
+        Item::Letters { .. } => Lengths { behind: false, ..l },
+        Item::Blank => Lengths {
+            had: false,
+            behind: false,
+            ..l
+        },
+        Item::Mark(b) => Lengths {
+            behind: false,
+            bad: l.bad || (b == b'%' && l.behind),
+            ..l
+        },
     }
 }
 
@@ -114,77 +88,37 @@ fn or_given(given: Given, v: Option<Value>) -> Given
 }
 
 // The dots after one byte more, at most 3.
+#[tactic(auto, using(std::proofs::lemmas::Bool::Decides::nat_tests), unfolding(crate::specs::Steps::dots_by))]
 fn dots_by(dots: u8, b: u8) -> u8
     ensures { result ≡ dots_by dots b }
 {
-    if b == b'.' {
-        if dots < 3 {
-            return dots + 1;
-        }
-        return dots;
-    }
-    dots
-}
-
-// The first sub-token goes on.
-fn inside(given: Given, dots: u8, rest: bool) -> First
-    ensures { result ≡ inside_first given dots rest }
-{
-    First {
-        begun: true,
-        over: false,
-        given,
-        dots,
-        rest,
-    }
-}
-
-// A blank ends the first sub-token, if it has begun.
-fn ended(f: First) -> First
-    ensures { result ≡ ended_first f }
-{
-    let given = f.given;
-    First {
-        begun: f.begun,
-        over: f.begun,
-        given,
-        dots: f.dots,
-        rest: f.rest,
+    if b == b'.' && dots < 3 {
+        dots + 1
+    } else {
+        dots
     }
 }
 
 // One item more for the first sub-token, which the first blank behind it ends.
+#[tactic(auto, using(std::proofs::lemmas::Bool::Decides::nat_tests))]
 fn step_first(f: First, item: Item) -> First
     ensures { result ≡ step_first f item }
 {
-    let given = f.given;
     match item {
-        Item::Digits(v) => {
-            if f.over {
-                return f;
-            }
-            return inside(or_given(given, v), f.dots, f.rest);
-        }
-        Item::Letters {
-            letter: _,
-            count: _,
-        } => {
-            if f.over {
-                return f;
-            }
-            return inside(given, f.dots, f.rest);
-        }
-        Item::Blank => {
-            return ended(f);
-        }
-        Item::Mark(b) => {
-            if f.over {
-                return f;
-            }
-            let dots = dots_by(f.dots, b);
-            let rest = slices::either(f.rest, b == b'r');
-            return inside(given, dots, rest);
-        }
+        Item::Blank => First { over: f.begun, ..f },
+        _ if f.over => f,
+        Item::Digits(v) => First {
+            begun: true,
+            given: or_given(f.given, v),
+            ..f
+        },
+        Item::Letters { .. } => First { begun: true, ..f },
+        Item::Mark(b) => First {
+            begun: true,
+            dots: dots_by(f.dots, b),
+            rest: f.rest || b == b'r',
+            ..f
+        },
     }
 }
 
@@ -214,19 +148,11 @@ fn known(b: u8) -> bool
 }
 
 // Whether a byte is a sign.
+#[tactic(auto, using(std::proofs::lemmas::Bool::Decides::nat_tests), unfolding(notation::specs::Bytes::contains))]
 pub fn is_sign(b: u8) -> bool
     ensures { result ≡ contains b signs }
 {
-    if b == b'#' {
-        return true;
-    }
-    if b == b'-' {
-        return true;
-    }
-    if b == b'n' {
-        return true;
-    }
-    false
+    matches!(b, b'#' | b'-' | b'n')
 }
 
 // The unknown marks, a bit each: those below 64, and those from 64 to 127.
@@ -264,13 +190,15 @@ pub fn unknown_end(token: &[u8], from: usize) -> usize
 }
 
 // Whether a mark is imported.
+#[tactic(auto, unfolding(token::specs::Token::passes))]
 pub fn passes(sounding: bool, b: u8) -> bool
     ensures { result ≡ passes sounding b }
 {
     if is_sign(b) {
-        return sounding;
+        sounding
+    } else {
+        known(b)
     }
-    known(b)
 }
 
 // Some signifiers more.
@@ -279,9 +207,8 @@ fn with_unknown(s: Sounds, n: usize) -> Sounds
     ensures { result ≡ with_unknown s n }
 {
     Sounds {
-        sounding: s.sounding,
-        pitches: s.pitches,
         signifiers: s.signifiers + n,
+        ..s
     }
 }
 
@@ -291,162 +218,64 @@ fn step_sounds(s: Sounds, item: Item) -> Sounds
     ensures { result ≡ step_sounds s item }
 {
     match item {
-        Item::Digits(_) => {
-            return s;
-        }
-        Item::Letters { letter, count } => {
-            if fits(s.sounding, letter, count) {
-                return Sounds {
-                    sounding: true,
-                    pitches: s.pitches + 1,
-                    signifiers: s.signifiers,
-                };
-            }
-            return with_unknown(s, 1);
-        }
-        Item::Blank => {
-            return Sounds {
-                sounding: false,
-                pitches: s.pitches,
-                signifiers: s.signifiers,
-            };
-        }
-        Item::Mark(b) => {
-            if passes(s.sounding, b) {
-                return s;
-            }
-            return with_unknown(s, 1);
-        }
+        Item::Digits(_) => s,
+        Item::Letters { letter, count } if fits(s.sounding, letter, count) => Sounds {
+            sounding: true,
+            pitches: s.pitches + 1,
+            ..s
+        },
+        Item::Blank => Sounds {
+            sounding: false,
+            ..s
+        },
+        Item::Mark(b) if passes(s.sounding, b) => s,
+        Item::Letters { .. } | Item::Mark(_) => with_unknown(s, 1),
     }
-}
-
-// Whether it was seen before, or b is x.
-fn seen(was: bool, b: u8, x: u8) -> bool
-    ensures { result ≡ (was || contains b (x ∷ [])) }
-{
-    if was {
-        return true;
-    }
-    x == b
-}
-
-// Whether it was seen before, or b is x or y.
-fn seen_either(was: bool, b: u8, x: u8, y: u8) -> bool
-    ensures { result ≡ (was || contains b (x ∷ y ∷ [])) }
-{
-    if was {
-        return true;
-    }
-    if x == b {
-        return true;
-    }
-    y == b
 }
 
 // The grace after one byte more: 1 for Q, 2 for q.
+#[tactic(auto, using(std::proofs::lemmas::Bool::Decides::nat_tests), unfolding(token::specs::Token::grace_by))]
 fn grace_by(grace: u8, b: u8) -> u8
     ensures { result ≡ grace_by grace b }
 {
-    if b == b'q' {
-        return 2;
+    match b {
+        b'q' => 2,
+        b'Q' => 1,
+        _ => grace,
     }
-    if b == b'Q' {
-        return 1;
-    }
-    grace
 }
 
 // The number of an articulation; 5 for any other byte.
+#[tactic(auto, using(std::proofs::lemmas::Bool::Decides::nat_tests), unfolding(token::specs::Token::articulation))]
 pub fn articulation(b: u8) -> u8
     ensures { result ≡ articulation b }
 {
-    if b == b'\'' {
-        return 0;
+    match b {
+        b'\'' => 0,
+        b'^' => 1,
+        b'~' => 2,
+        b';' => 3,
+        b'T' | b't' => 4,
+        _ => 5,
     }
-    if b == b'^' {
-        return 1;
-    }
-    if b == b'~' {
-        return 2;
-    }
-    if b == b';' {
-        return 3;
-    }
-    if b == b'T' {
-        return 4;
-    }
-    if b == b't' {
-        return 4;
-    }
-    5
-}
-
-// The number of articulations after one byte more.
-fn count_articulation(n: usize, b: u8) -> usize
-    requires { n < 18446744073709551615 }
-    ensures { result ≡ cond (ltb (articulation b) 5) 1 0 + n }
-{
-    if articulation(b) < 5 {
-        return 1 + n;
-    }
-    n
 }
 
 // One item more for the single bytes.
+#[tactic(auto, using(std::proofs::lemmas::Bool::Decides::nat_tests), unfolding(notation::specs::Bytes::contains))]
 fn step_marks(m: Marks, item: Item) -> Marks
     requires { m.articulations < 18446744073709551615 }
     ensures { result ≡ step_marks m item }
 {
     match item {
-        Item::Digits(_) => {
-            return m;
-        }
-        Item::Letters {
-            letter: _,
-            count: _,
-        } => {
-            return m;
-        }
-        Item::Blank => {
-            return m;
-        }
-        Item::Mark(b) => {
-            return Marks {
-                ties: seen_either(m.ties, b, b'[', b'_'),
-                tied: seen_either(m.tied, b, b']', b'_'),
-                slurs: seen(m.slurs, b, b'('),
-                slurred: seen(m.slurred, b, b')'),
-                grace: grace_by(m.grace, b),
-                articulations: count_articulation(m.articulations, b),
-            };
-        }
-    }
-}
-
-// Before the first sub-token.
-fn no_first() -> First
-    ensures { result ≡ no_first }
-{
-    First {
-        begun: false,
-        over: false,
-        given: Given::Nothing,
-        dots: 0,
-        rest: false,
-    }
-}
-
-// Before any mark.
-fn no_marks() -> Marks
-    ensures { result ≡ no_marks }
-{
-    Marks {
-        ties: false,
-        tied: false,
-        slurs: false,
-        slurred: false,
-        grace: 0,
-        articulations: 0,
+        Item::Mark(b) => Marks {
+            ties: m.ties || matches!(b, b'[' | b'_'),
+            tied: m.tied || matches!(b, b']' | b'_'),
+            slurs: m.slurs || b == b'(',
+            slurred: m.slurred || b == b')',
+            grace: grace_by(m.grace, b),
+            articulations: m.articulations + usize::from(articulation(b) < 5),
+        },
+        _ => m,
     }
 }
 
@@ -459,13 +288,26 @@ pub fn scan_token(token: &[u8]) -> Scan
         behind: false,
         bad: false,
     };
-    let mut first = no_first();
+    let mut first = First {
+        begun: false,
+        over: false,
+        given: Given::Nothing,
+        dots: 0,
+        rest: false,
+    };
     let mut sounds = Sounds {
         sounding: false,
         pitches: 0,
         signifiers: 0,
     };
-    let mut marks = no_marks();
+    let mut marks = Marks {
+        ties: false,
+        tied: false,
+        slurs: false,
+        slurred: false,
+        grace: 0,
+        articulations: 0,
+    };
     let mut i = 0;
     while i < token.len() {
         let b = token[i];
@@ -518,11 +360,10 @@ pub fn scan_token(token: &[u8]) -> Scan
 fn collect(l: Lengths, f: First, s: Sounds, m: Marks) -> Scan
     ensures { result ≡ collected l f s m }
 {
-    let given = f.given;
     Scan {
         bad: l.bad,
         silent: !f.begun,
-        given,
+        given: f.given,
         dots: f.dots,
         rest: f.rest,
         pitches: s.pitches,

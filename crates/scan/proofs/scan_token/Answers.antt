@@ -7,7 +7,7 @@ use Rattle.scan.proofs.UnknownLaws.{scan_run}
 use Rattle.scan.proofs.scan_token.Goals as goal
 
 pub loop-i-init : goal.loop-i-init
-loop-i-init c = scan_first c.no_first-first.ensures c.no_marks-marks.ensures
+loop-i-init c = scan_first refl refl
 
 pub digits_end-end-requires : goal.digits_end-end-requires
 digits_end-end-requires c = (c.loop-i-test.true, sym c.is_digit.ensures ∙ c.if-is_digit.true)
