@@ -85,7 +85,7 @@ tempo_held (Mode x) t = same t
 -- the parts changed and the first tempo: what is applied
 by_what : (w : Interpretation) (p : ℕ) (tok : Token) (cells parts parts' out : List ℕ) (t : Tally)
     → parts_of t.parts parts' ≡ set (parts_of t.parts parts) p (changed w (span_of (tok.at + 3) (length tok.bytes - 3)) (part_at (state_of cells parts t) p))
-    → told (Goes (tempoed w t)) cells parts' out ≡ landed (goes (applied w tok p (part_at (state_of cells parts t) p) (state_of cells parts t))) out t.at
+    → told (Ok (tempoed w t)) cells parts' out ≡ landed (goes (applied w tok p (part_at (state_of cells parts t) p) (state_of cells parts t))) out t.at
 unfolding behind laid
 by_what Nothing p tok cells parts parts' out t e =
     ap (λ (ps : List Part). landed (goes (quiet (with_parts (state_of cells parts t) ps))) out t.at)
@@ -118,7 +118,7 @@ module _ (bytes : List ℕ) (p k j at : ℕ) (parts : List ℕ) (tally : Tally) 
   apply_comes {parts'} {out} {t} {what} o c f =
       record {
         same = λ (cells : List ℕ).
-            ap (λ (x : Tally). told (Goes x) cells parts' out) f
+            ap (λ (x : Tally). told (Ok x) cells parts' out) f
             ∙ by_what what p (token_of at bytes) cells parts parts' out tally (c tally.parts top low)
             ∙ ap (λ (x : Says). landed (goes (heeded x k j (token_of at bytes) p (part_at (state_of cells parts tally) p) (state_of cells parts tally))) out tally.at) (sym o)
             ∙ ap (λ (r : Result). landed (goes r) out tally.at) (heeded_is cells);
