@@ -4,7 +4,7 @@
 ghost use Rattle.std.specs.Prelude.{◌≡◌, ◌+◌, ◌≤◌, ◌<◌, ◌^◌, length};
 ghost use Rattle.lines.specs.Lines.{piece_end};
 
-#[derive(Clone, Copy)]
+#[derive(Clone, Copy, PartialEq, Eq, Debug)]
 pub struct Place {
     pub at: usize,
     pub line: u32,
@@ -18,15 +18,15 @@ pub fn next_line(text: &[u8], at: usize) -> usize
     lines::line_end(text, at) + 1
 }
 
-// The place moves past a line.
-pub fn advance(place: &mut Place, text: &[u8])
-    requires { ((place.old.at ≤ length text.now) × (length text.now ≤ 67108864)) × (place.old.line < 2 ^ 27) }
-    ensures { (place.new.at ≡ piece_end 10 text.now place.old.at + 1) × (place.new.line ≡ place.old.line + 1) }
-{
-    let at = place.at;
-    let next = next_line(text, at);
-    place.at = next;
-    place.line = place.line + 1;
+impl Place {
+    // The place moves past a line.
+    pub fn advance(&mut self, text: &[u8])
+        requires { ((self.old.at ≤ length text.now) × (length text.now ≤ 67108864)) × (self.old.line < 2 ^ 27) }
+        ensures { (self.new.at ≡ piece_end 10 text.now self.old.at + 1) × (self.new.line ≡ self.old.line + 1) }
+    {
+        self.at = next_line(text, self.at);
+        self.line += 1;
+    }
 }
 
 // The place past the line that begins at `at`, behind `line` lines.
@@ -35,6 +35,6 @@ pub fn past_line(text: &[u8], at: usize, line: u32) -> Place
     ensures { (result.at ≡ piece_end 10 text.now at + 1) × (result.line ≡ line + 1) }
 {
     let mut place = Place { at, line };
-    advance(&mut place, text);
+    place.advance(text);
     place
 }
