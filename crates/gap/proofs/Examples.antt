@@ -1,4 +1,5 @@
 -- Holes that the definition is run on: one table, one fact.
+use Rattle.std.specs.Prelude.{Ok, Err}
 use Prim.Native.Nat.{ℕ}
 use mathlib.Core.Bool.{Bool, true, ◌&&◌}
 use mathlib.Core.List.{List, [], ◌∷◌}
@@ -8,8 +9,8 @@ use Rattle.duration.specs.Duration.{gcd_in}
 use Rattle.sheet.specs.declared.Note.{Note}
 use Rattle.gap.specs.Values.{ticks_of, triplet_by, tuplet_by, plain_by}
 use Rattle.gap.specs.Next.{longest_from, shortest_below, is_exact}
-use Rattle.gap.specs.Fill.{Fill, turned, filled, fill_from}
-use Rattle.gap.specs.Answer.{fill_of}
+use Rattle.gap.specs.Fill.{Fill, fill_from}
+use Rattle.gap.specs.Answer.{number_of, fill_of}
 
 -- ticks, divisions and the voice's notes; value, actual and normal of each rest, or the number that turns the hole away
 pub record Example : Type 0 where
@@ -26,8 +27,8 @@ shown_of [] = []
 shown_of (n ∷ ns) = n.value ∷ n.actual ∷ n.normal ∷ shown_of ns
 
 abbrev shown : Fill → List ℕ
-shown (turned number) = number ∷ []
-shown (filled ns) = shown_of ns
+shown (Err e) = number_of e ∷ []
+shown (Ok ns) = shown_of ns
 
 abbrev pub each : List Example → Bool
 each [] = true

@@ -1,71 +1,66 @@
 -- A hole longer than a longa begins with one: no value is as long as what is left.
+use Rattle.std.specs.Prelude.{Option, None, Some}
 use mathlib.Core.Path.{◌≡◌, refl, sym, ap, ◌∙◌}
-use Prim.Native.Nat.{ℕ, zero, suc, ◌+◌, ◌*◌, ◌/◌, ◌%◌, ◌^◌, ◌≤◌, ◌<◌}
-use native.Mathlib.Nat.{div-le_self, mul-one}
+use Prim.Native.Nat.{ℕ, ◌*◌, ◌^◌, ◌<◌}
+use native.Mathlib.Nat.{mul-one, le-mul_of_pos_right}
 use native.Mathlib.Omega.{arith}
-use mathlib.Core.Bool.{Bool, true, false, cond, ◌&&◌, ◌||◌}
+use mathlib.Core.Bool.{Bool, false, cond}
 use lib.Dec.{eqb, leb}
+use lib.Pow.{pow_pos}
 use borrow.Author.Tests.{ne_eqb, le-leb}
-use Rattle.gap.specs.Values.{ticks_of, triplet_by, tuplet_by, plain_by}
-use Rattle.gap.specs.Next.{or_else, longest_from, longest, shortest_below, is_exact, tuplet_of, next_rest}
-use Rattle.gap.specs.declared.Next.{Next}
-use Rattle.gap.specs.declared.Next.TheVariants.{None, Rest}
-use Rattle.gap.proofs.ValueLaws.{ticks_exact}
+use Rattle.duration.specs.Duration.{gcd_of}
+use Rattle.gap.specs.Values.{ticks_of, tried, rest, in_tuplet, triplet_by, tuplet_by, plain_by}
+use Rattle.gap.specs.Next.{or_else, longest_from, longest, shortest_below, just, tuplet_of, next_rest}
+use Rattle.gap.specs.declared.Rest.{Rest}
+use Rattle.gap.proofs.ValueLaws.{Whole, ticks_whole}
+use Rattle.gap.proofs.SearchLaws.{longest_none, shortest_none, exact_none}
 
-ticks_high : (d v : ℕ) → ticks_of d v ≤ d * 16
-unfolding ticks_of
-ticks_high d v = go (eqb (d * 16 % 2 ^ v) 0 && leb (d * 16 / 2 ^ v) 4294967295)
-  where
-    go : (b : Bool) → cond b (d * 16 / 2 ^ v) 0 ≤ d * 16
-    go true = div-le_self (d * 16) (2 ^ v)
-    go false = omega arith
+module _ (d ticks longa : ℕ) (is : ticks_of d 0 ≡ Some longa) (long : longa < ticks) where
+  all : longa ≡ d * 16
+  all = sym (mul-one longa) ∙ (ticks_whole d 0 is).exact
 
-longest_none : (by : ℕ → Next) → ((v : ℕ) → by v ≡ None) → (n v : ℕ) → longest_from by n v ≡ None
-unfolding longest_from
-longest_none by none zero v = refl
-longest_none by none (suc n) v = ap (λ (x : Next). or_else x (longest_from by n (v + 1))) (none v) ∙ longest_none by none n (v + 1)
+  -- no value has as many ticks
+  low : (v base : ℕ) → Whole d v base → base < ticks
+  low v base w = omega (arith, le-mul_of_pos_right {m = 2 ^ v} base (pow_pos v), all, w.exact)
 
-shortest_none : (by : ℕ → Next) → ((v : ℕ) → by v ≡ None) → (n : ℕ) → shortest_below by n ≡ None
-unfolding shortest_below
-shortest_none by none zero = refl
-shortest_none by none (suc n) = ap (λ (x : Next). or_else x (shortest_below by n)) (none n) ∙ shortest_none by none n
-
-module _ (d ticks : ℕ) (some : ticks_of d 0 ≡ 0 → ⊥) (long : ticks_of d 0 < ticks) where
-  low : (v : ℕ) → ticks_of d v < ticks
-  low v =
-      let one : ticks_of d 0 * 2 ^ 0 ≡ d * 16 = ticks_exact d 0 (omega arith) in
-      let all : ticks_of d 0 ≡ d * 16 = sym (mul-one (ticks_of d 0)) ∙ one in
-      omega (arith, ticks_high d v)
+  none_by : (v : ℕ) (by : ℕ → Option Rest) → ((base : ℕ) → base < ticks → by base ≡ None) → tried by (ticks_of d v) ≡ None
+  none_by v by none = go (ticks_of d v) refl
+    where
+      go : (o : Option ℕ) → ticks_of d v ≡ o → tried by o ≡ None
+      go None e = refl
+      go (Some base) e = none base (low v base (ticks_whole d v e))
 
   no_triplet : (v : ℕ) → triplet_by d ticks v ≡ None
   unfolding triplet_by
   no_triplet v =
-      let h = low v in
-      ap (λ (b : Bool). cond b (Rest v 3 2 ticks) None) (ne_eqb (ticks_of d v * 2) (ticks * 3) (λ e. omega arith))
+      none_by v (λ base. cond (eqb (base * 2) (ticks * 3)) (Some (rest v 3 2 ticks)) None)
+      (λ base h. ap (λ (b : Bool). cond b (Some (rest v 3 2 ticks)) None) (ne_eqb (base * 2) (ticks * 3) (λ e. omega arith)))
 
   no_tuplet : (v : ℕ) → tuplet_by d ticks v ≡ None
   unfolding tuplet_by
-  no_tuplet v = let h = low v in rw (le-leb (ticks_of d v) ticks (omega arith))
+  no_tuplet v =
+      none_by v (λ base. cond (leb base ticks) None (in_tuplet v base ticks (gcd_of base ticks)))
+      (λ base h. ap (λ (b : Bool). cond b None (in_tuplet v base ticks (gcd_of base ticks))) (le-leb base ticks (omega arith)))
 
-  not_exact : (n v : ℕ) → is_exact d ticks n v ≡ false
-  unfolding is_exact
-  not_exact zero v = refl
-  not_exact (suc n) v =
-      let h = low v in
-      ap (λ (b : Bool). b || is_exact d ticks n (v + 1)) (ne_eqb (ticks_of d v) ticks (λ e. omega arith)) ∙ not_exact n (v + 1)
+  not_just : (v : ℕ) → just (ticks_of d v) ticks ≡ false
+  not_just v = go (ticks_of d v) refl
+    where
+      go : (o : Option ℕ) → ticks_of d v ≡ o → just o ticks ≡ false
+      go None e = refl
+      go (Some base) e = let h = low v base (ticks_whole d v e) in ne_eqb base ticks (λ q. omega arith)
 
-  plain_longa : plain_by d ticks 0 ≡ Rest 0 0 0 (ticks_of d 0)
+  plain_longa : plain_by d ticks 0 ≡ Some (rest 0 0 0 longa)
   unfolding plain_by
-  plain_longa = rw (ne_eqb (ticks_of d 0) 0 some, le-leb (ticks_of d 0) ticks (omega arith))
+  plain_longa = rw (is, le-leb longa ticks (omega arith))
 
-  plain_first : longest (plain_by d ticks) ≡ Rest 0 0 0 (ticks_of d 0)
+  plain_first : longest (plain_by d ticks) ≡ Some (rest 0 0 0 longa)
   unfolding longest_from
-  plain_first = ap (λ (x : Next). or_else x (longest_from (plain_by d ticks) 9 1)) plain_longa
+  plain_first = ap (λ (x : Option Rest). or_else x (longest_from (plain_by d ticks) 9 1)) plain_longa
 
-  pub next_longa : Rest 0 0 0 (ticks_of d 0) ≡ next_rest d ticks
+  pub next_longa : Some (rest 0 0 0 longa) ≡ next_rest d ticks
   next_longa =
       sym
-      (ap (λ (x : Next). or_else x (or_else (tuplet_of d ticks) (longest (plain_by d ticks)))) (longest_none (triplet_by d ticks) no_triplet 10 0)
-      ∙ ap (λ (b : Bool). or_else (cond b None (shortest_below (tuplet_by d ticks) 10)) (longest (plain_by d ticks))) (not_exact 10 0)
-      ∙ ap (λ (x : Next). or_else x (longest (plain_by d ticks))) (shortest_none (tuplet_by d ticks) no_tuplet 10)
+      (ap (λ (x : Option Rest). or_else x (or_else (tuplet_of d ticks) (longest (plain_by d ticks)))) (longest_none (triplet_by d ticks) 10 0 (λ k a b. no_triplet k))
+      ∙ ap (λ (b : Bool). or_else (cond b None (shortest_below (tuplet_by d ticks) 10)) (longest (plain_by d ticks))) (exact_none d ticks 10 0 (λ k a b. not_just k))
+      ∙ ap (λ (x : Option Rest). or_else x (longest (plain_by d ticks))) (shortest_none (tuplet_by d ticks) 10 (λ k a. no_tuplet k))
       ∙ plain_first)

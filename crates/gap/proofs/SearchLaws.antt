@@ -1,114 +1,175 @@
--- The searches over the ten values, as the loops go through them.
-use mathlib.Core.Path.{◌≡◌, refl, sym, ap, ◌∙◌}
-use Prim.Native.Nat.{ℕ, suc, ◌+◌, ◌-◌, ◌≤◌, ◌<◌}
+-- The searches over the ten values, as the chains go through them.
+use Rattle.std.specs.Prelude.{Option, None, Some, IfSome, IsTrue}
+use Rattle.std.specs.Option.{MatchOption, IsSomeAnd, option_map}
+use Rattle.std.specs.Bool.{MatchBool}
+use Rattle.std.specs.Fn.{Called}
+use Rattle.std.specs.Iterator.Adapters.{rev_steps, RevKeepsRuns}
+use Rattle.std.specs.declared.iter.Rev.{Rev}
+use Rattle.std.specs.declared.ops.Range.{Range}
+use Rattle.std.proofs.iter.runs.Sources.{range_runs, range_runs_back, nat_range_steps_back}
+use Rattle.std.proofs.iter.Yields.{nat_range_steps}
+use Rattle.std.specs.Iterator.Runs.{Run, SomeRun, ItemsCountUp, ItemsCountDown, AllItemsGive, AnyItemGives, IsFirstToGive, CallKeepsClosure}
+use denote.Param.Members.{Mut}
+use mathlib.Core.Path.{◌≡◌, refl, sym, ap, subst, ◌∙◌}
+use Prim.Native.Nat.{ℕ, zero, suc, ◌+◌, ◌-◌, ◌≤◌, ◌<◌}
+use native.Mathlib.Nat.{zero-add}
 use native.Mathlib.Omega.{arith}
-use mathlib.Core.Bool.{Bool, true, false, cond, ◌||◌}
-use lib.Dec.{eqb}
-use borrow.Author.Tests.{eq-eqb, ne_eqb}
-use Rattle.gap.specs.Values.{ticks_of, is_rest}
-use Rattle.gap.specs.Next.{or_else, longest_from, longest, shortest_below, is_exact}
-use Rattle.gap.specs.declared.Next.{Next}
-use Rattle.gap.specs.declared.Next.TheVariants.{None}
+use mathlib.Core.Bool.{Bool, true, false, ◌||◌}
+use Rattle.slices.proofs.TestLaws.{clash}
+use Rattle.gap.specs.Values.{ticks_of}
+use Rattle.gap.specs.Next.{or_else, longest_from, longest, shortest_below, just, is_exact}
+use Rattle.gap.specs.declared.Rest.{Rest}
 
--- what the values from v on give is what all give
-pub record Search (by : ℕ → Next) (v : ℕ) : Type 0 where
-  pub high : v ≤ 10
-  pub same : longest_from by (10 - v) v ≡ longest by
+-- ---- the first that serves
 
-pub search_first : {by : ℕ → Next} → Search by 0
-search_first = record { high = omega arith; same = refl }
+pub longest_none : (by : ℕ → Option Rest) (n v : ℕ) → ((k : ℕ) → v ≤ k → k < v + n → by k ≡ None) → longest_from by n v ≡ None
+unfolding longest_from
+longest_none by zero v none = refl
+longest_none by (suc n) v none =
+    ap (λ (x : Option Rest). or_else x (longest_from by n (v + 1))) (none v (omega arith) (omega arith))
+    ∙ longest_none by n (v + 1) (λ k a b. none k (omega arith) (omega arith))
 
-module _ {by : ℕ → Next} {v : ℕ} (inv : Search by v) where
-  pub search_past : v ≡ 10 → None ≡ longest by
-  unfolding longest_from
-  search_past e = ap (λ (k : ℕ). longest_from by (10 - k) k) (sym e) ∙ inv.same
+longest_some : (by : ℕ → Option Rest) {r : Rest} {i : ℕ} → by i ≡ Some r → (n v : ℕ) → v ≤ i → i < v + n → ((k : ℕ) → v ≤ k → k < i → by k ≡ None)
+    → longest_from by n v ≡ Some r
+unfolding longest_from
+longest_some by {r} {i} e zero v low high none = absurd (omega arith)
+longest_some by {r} {i} e (suc n) v low high none =
+    go (i - v) refl (λ later. longest_some by e n (v + 1) later (omega arith) (λ k a b. none k (omega arith) b))
+  where
+    go : (d : ℕ) → i - v ≡ d → (v + 1 ≤ i → longest_from by n (v + 1) ≡ Some r) → or_else (by v) (longest_from by n (v + 1)) ≡ Some r
+    go zero z later = let same : i ≡ v = omega arith in ap (λ (x : Option Rest). or_else x (longest_from by n (v + 1))) (sym (ap by same) ∙ e)
+    go (suc d) z later = ap (λ (x : Option Rest). or_else x (longest_from by n (v + 1))) (none v (omega arith) (omega arith)) ∙ later (omega arith)
 
-  module _ (on : v ≡ 10 → ⊥) where
-    pub search_in : v < 10
-    search_in = omega (arith, inv.high)
+pub shortest_none : (by : ℕ → Option Rest) (n : ℕ) → ((k : ℕ) → k < n → by k ≡ None) → shortest_below by n ≡ None
+unfolding shortest_below
+shortest_none by zero none = refl
+shortest_none by (suc n) none =
+    ap (λ (x : Option Rest). or_else x (shortest_below by n)) (none n (omega arith)) ∙ shortest_none by n (λ k h. none k (omega arith))
 
-    step : longest by ≡ or_else (by v) (longest_from by (10 - (v + 1)) (v + 1))
-    unfolding longest_from
-    step =
-        let n : 10 - v ≡ suc (10 - (v + 1)) = omega (arith, search_in) in
-        sym inv.same ∙ ap (λ (k : ℕ). longest_from by k v) n
+shortest_some : (by : ℕ → Option Rest) {r : Rest} {i : ℕ} → by i ≡ Some r → (n : ℕ) → i < n → ((k : ℕ) → i < k → k < n → by k ≡ None)
+    → shortest_below by n ≡ Some r
+unfolding shortest_below
+shortest_some by {r} {i} e zero high none = absurd (omega arith)
+shortest_some by {r} {i} e (suc n) high none =
+    go (n - i) refl (λ later. shortest_some by e n later (λ k a b. none k a (omega arith)))
+  where
+    go : (d : ℕ) → n - i ≡ d → (i < n → shortest_below by n ≡ Some r) → or_else (by n) (shortest_below by n) ≡ Some r
+    go zero z later = let same : i ≡ n = omega arith in ap (λ (x : Option Rest). or_else x (shortest_below by n)) (sym (ap by same) ∙ e)
+    go (suc d) z later = ap (λ (x : Option Rest). or_else x (shortest_below by n)) (none n (omega arith) (omega arith)) ∙ later (omega arith)
 
-    module _ {next : Next} {t : Bool} (tried : next ≡ by v) (told : t ≡ is_rest next) where
-      is : is_rest (by v) ≡ t
-      is = ap is_rest (sym tried) ∙ sym told
+-- ---- the item at a place
 
-      pub search_turn : t ≡ false → Search by (v + 1)
-      search_turn e = record {
-        high = omega (arith, search_in);
-        same = sym (step ∙ ap (λ (b : Bool). cond b (by v) (longest_from by (10 - (v + 1)) (v + 1))) (is ∙ e));
-      }
+item_is : (o : Option ℕ) (P : ℕ → Type 0) {n : ℕ} → option_map (λ y. y) o ≡ Some n → IfSome o P → P n
+item_is None P e h = clash cc
+item_is (Some x) P {n} e h = let same : x ≡ n = cc in subst P same h
 
-      pub search_found : t ≡ true → next ≡ longest by
-      search_found e = tried ∙ sym (step ∙ ap (λ (b : Bool). cond b (by v) (longest_from by (10 - (v + 1)) (v + 1))) (is ∙ e))
+item_and : (o : Option ℕ) (P : ℕ → Type 0) {n : ℕ} → option_map (λ y. y) o ≡ Some n → IsSomeAnd o P → P n
+item_and None P e h = absurd h
+item_and (Some x) P {n} e h = let same : x ≡ n = cc in subst P same h
 
--- what the values below n give is what all give
-pub record Descent (by : ℕ → Next) (n : ℕ) : Type 0 where
-  pub high : n ≤ 10
-  pub same : shortest_below by n ≡ shortest_below by 10
+-- ---- a chain over the ten values
 
-pub descent_first : {by : ℕ → Next} → Descent by 10
-descent_first = record { high = omega arith; same = refl }
+module _ {S F : Type 0} {steps : S → Option ℕ → S → Type 0} (g : Mut F (ℕ × Unit {0}) (Option Rest)) (f : F) (by : ℕ → Option Rest)
+    (says : (x : ℕ) (r : Option Rest) (q : F) → Called g f (x, tt) r q → (q ≡ f) × (r ≡ by x)) (p : Run steps) where
+  keeps : CallKeepsClosure g f
+  keeps a r q c = (says a.0 r q c).0
 
-module _ {by : ℕ → Next} {n : ℕ} (inv : Descent by n) where
-  pub descent_past : n ≡ 0 → None ≡ shortest_below by 10
-  unfolding shortest_below
-  descent_past e = ap (shortest_below by) (sym e) ∙ inv.same
+  abbrev pub Found : Option Rest → Type 0
+  Found result = MatchOption result (IsTrue p.whole × AllItemsGive p g f None)
+      (λ y. (i : ℕ) × (i < p.len) × (p.len ≡ i + 1) × IsFirstToGive p g f (Some y) None i)
 
-  module _ (on : n ≡ 0 → ⊥) where
-    pub descent_in : n - 1 < 10
-    descent_in = omega (arith, inv.high)
+  module _ (up : ItemsCountUp p 0 10) where
+    at_place : (k : ℕ) → k < p.len → option_map (λ y. y) (p.at k) ≡ Some k
+    at_place k h = up.3 k h ∙ ap Some (zero-add k)
 
-    down : shortest_below by 10 ≡ or_else (by (n - 1)) (shortest_below by (n - 1))
-    unfolding shortest_below
-    down =
-        let k : n ≡ suc (n - 1) = omega arith in
-        sym inv.same ∙ ap (shortest_below by) k
+    up_none : (k : ℕ) → k < p.len → IfSome (p.at k) (λ x. Called g f (x, tt) None f) → by k ≡ None
+    up_none k h c = sym (says k None f (item_is (p.at k) (λ x. Called g f (x, tt) None f) (at_place k h) c)).1
 
-    module _ {next : Next} {t : Bool} (tried : next ≡ by (n - 1)) (told : t ≡ is_rest next) where
-      is_below : is_rest (by (n - 1)) ≡ t
-      is_below = ap is_rest (sym tried) ∙ sym told
+    pub longest_found : (result : Option Rest) → Found result → result ≡ longest by
+    longest_found None h =
+        sym (longest_none by 10 0 (λ k a b. up_none k (omega (arith, up.1 h.0)) (h.1 keeps k)))
+    longest_found (Some y) h =
+        let first = h.3 keeps in
+        sym (longest_some by (sym (says h.0 (Some y) f (item_and (p.at h.0) (λ x. Called g f (x, tt) (Some y) f) (at_place h.0 h.1) first.0)).1) 10 0 (omega arith) (omega (arith, h.1, up.0))
+        (λ k a b. sym (says k None f (item_and (p.at k) (λ x. Called g f (x, tt) None f) (at_place k (omega (arith, h.1))) (first.1 k b))).1))
 
-      pub descent_turn : t ≡ false → Descent by (n - 1)
-      descent_turn e = record {
-        high = omega (arith, descent_in);
-        same = sym (down ∙ ap (λ (b : Bool). cond b (by (n - 1)) (shortest_below by (n - 1))) (is_below ∙ e));
-      }
+  module _ (down : ItemsCountDown p 0 10) where
+    pub shortest_found : (result : Option Rest) → Found result → result ≡ shortest_below by 10
+    shortest_found None h =
+        sym (shortest_none by 10 (λ k b.
+        let i : 10 - 1 - (9 - k) ≡ k = omega arith in
+        ap by (sym i) ∙ sym (says (10 - 1 - (9 - k)) None f (item_is (p.at (9 - k)) (λ x. Called g f (x, tt) None f) (down.3 (9 - k) (omega (arith, down.1 h.0))) (h.1 keeps (9 - k)))).1))
+    shortest_found (Some y) h =
+        let first = h.3 keeps in
+        sym (shortest_some by (sym (says (10 - 1 - h.0) (Some y) f (item_and (p.at h.0) (λ x. Called g f (x, tt) (Some y) f) (down.3 h.0 h.1) first.0)).1) 10 (omega arith)
+        (λ k a b.
+        let i : 10 - 1 - (9 - k) ≡ k = omega arith in
+        ap by (sym i) ∙ sym (says (10 - 1 - (9 - k)) None f (item_and (p.at (9 - k)) (λ x. Called g f (x, tt) None f) (down.3 (9 - k) (omega (arith, h.1, a, b))) (first.1 (9 - k) (omega (arith, a, b))))).1))
 
-      pub descent_found : t ≡ true → next ≡ shortest_below by 10
-      descent_found e = tried ∙ sym (down ∙ ap (λ (b : Bool). cond b (by (n - 1)) (shortest_below by (n - 1))) (is_below ∙ e))
+-- the chain over the range itself
+module _ {F : Type 0} (g : Mut F (ℕ × Unit {0}) (Option Rest)) (f : F) (by : ℕ → Option Rest)
+    (says : (x : ℕ) (r : Option Rest) (q : F) → Called g f (x, tt) r q → (q ≡ f) × (r ≡ by x)) (result : Option Rest) where
+  abbrev ten : Range ℕ
+  ten = record { start = 0; end = 10 }
 
--- whether a value from v on lasts just the ticks
-pub record Exactly (divisions ticks v : ℕ) : Type 0 where
-  pub high : v ≤ 10
-  pub same : is_exact divisions ticks (10 - v) v ≡ is_exact divisions ticks 10 0
+  pub longest_is : SomeRun nat_range_steps ten (λ p. Found g f by says p result) → result ≡ longest by
+  longest_is run = longest_found g f by says run.0 (subst (λ s. ItemsCountUp run.0 s.start s.end) run.1 (range_runs run.0 run.0.seen)) result run.2
 
-pub exactly_first : {divisions ticks : ℕ} → Exactly divisions ticks 0
-exactly_first = record { high = omega arith; same = refl }
+  pub shortest_is : {s : Rev (Range ℕ)} → RevKeepsRuns nat_range_steps_back ten s → SomeRun (rev_steps nat_range_steps_back) s (λ p. Found g f by says p result)
+      → result ≡ shortest_below by 10
+  shortest_is kept run =
+      let source = kept run.0 run.0.seen run.1 in
+      let down = subst (λ s. ItemsCountDown source.0 s.start s.end) source.1 (range_runs_back source.0 source.0.seen) in
+      let same = source.2 in
+      shortest_found g f by says run.0 (
+        omega (arith, down.0, same.0.0),
+        (λ w. omega (arith, down.1 (same.1 ∙ w), same.0.0)),
+        (λ k. subst (λ o. IfSome o (λ x. (x + k + 1 ≡ 10) × (0 ≤ x))) (same.0.2 k) (down.2 k)),
+        (λ k h. ap (option_map (λ y. y)) (sym (same.0.2 k)) ∙ down.3 k (omega (arith, h, same.0.0))),
+      )
+      result run.2
 
-module _ {divisions ticks v : ℕ} (inv : Exactly divisions ticks v) where
-  pub exactly_past : 10 ≤ v → false ≡ is_exact divisions ticks 10 0
-  unfolding is_exact
-  exactly_past h =
-      let e : v ≡ 10 = omega (arith, inv.high) in
-      ap (λ (k : ℕ). is_exact divisions ticks (10 - k) k) (sym e) ∙ inv.same
+-- ---- whether a value lasts just the ticks
 
-  module _ (on : v < 10) where
-    here : is_exact divisions ticks 10 0 ≡ (eqb (ticks_of divisions v) ticks || is_exact divisions ticks (10 - (v + 1)) (v + 1))
-    unfolding is_exact
-    here =
-        let n : 10 - v ≡ suc (10 - (v + 1)) = omega (arith, on) in
-        sym inv.same ∙ ap (λ (k : ℕ). is_exact divisions ticks k v) n
+pub exact_none : (d ticks n v : ℕ) → ((k : ℕ) → v ≤ k → k < v + n → just (ticks_of d k) ticks ≡ false) → is_exact d ticks n v ≡ false
+unfolding is_exact
+exact_none d ticks zero v none = refl
+exact_none d ticks (suc n) v none =
+    ap (λ (b : Bool). b || is_exact d ticks n (v + 1)) (none v (omega arith) (omega arith))
+    ∙ exact_none d ticks n (v + 1) (λ k a b. none k (omega arith) (omega arith))
 
-    pub exactly_turn : {base : ℕ} → base ≡ ticks_of divisions v → (base ≡ ticks → ⊥) → Exactly divisions ticks (v + 1)
-    exactly_turn e n = record {
-      high = omega (arith, on);
-      same = sym (here ∙ ap (λ (b : Bool). b || is_exact divisions ticks (10 - (v + 1)) (v + 1)) (ne_eqb _ _ (λ q. n (e ∙ q))));
-    }
+or_true : (b : Bool) → (b || true) ≡ true
+or_true true = refl
+or_true false = refl
 
-    pub exactly_found : {base : ℕ} → base ≡ ticks_of divisions v → base ≡ ticks → true ≡ is_exact divisions ticks 10 0
-    exactly_found e q = sym (here ∙ ap (λ (b : Bool). b || is_exact divisions ticks (10 - (v + 1)) (v + 1)) (eq-eqb _ _ (sym e ∙ q)))
+exact_some : (d ticks : ℕ) {i : ℕ} → just (ticks_of d i) ticks ≡ true → (n v : ℕ) → v ≤ i → i < v + n → is_exact d ticks n v ≡ true
+unfolding is_exact
+exact_some d ticks {i} e zero v low high = absurd (omega arith)
+exact_some d ticks {i} e (suc n) v low high = go (i - v) refl (λ later. exact_some d ticks e n (v + 1) later (omega arith))
+  where
+    go : (k : ℕ) → i - v ≡ k → (v + 1 ≤ i → is_exact d ticks n (v + 1) ≡ true) → (just (ticks_of d v) ticks || is_exact d ticks n (v + 1)) ≡ true
+    go zero z later =
+        let same : i ≡ v = omega arith in
+        ap (λ (b : Bool). b || is_exact d ticks n (v + 1)) (sym (ap (λ (j : ℕ). just (ticks_of d j) ticks) same) ∙ e)
+    go (suc k) z later = ap (λ (b : Bool). just (ticks_of d v) ticks || b) (later (omega arith)) ∙ or_true (just (ticks_of d v) ticks)
+
+module _ {F : Type 0} (g : Mut F (ℕ × Unit {0}) Bool) (f : F) (d ticks : ℕ)
+    (says : (x : ℕ) (r : Bool) (q : F) → Called g f (x, tt) r q → (q ≡ f) × (r ≡ just (ticks_of d x) ticks)) where
+  keeps_test : CallKeepsClosure g f
+  keeps_test a r q c = (says a.0 r q c).0
+
+  exact_by : (result : Bool) (p : Run nat_range_steps) → ItemsCountUp p 0 10
+      → MatchBool result (AnyItemGives p g f true) (IsTrue p.whole × AllItemsGive p g f false) → result ≡ is_exact d ticks 10 0
+  exact_by true p up h =
+      let found = h keeps_test in
+      sym (exact_some d ticks
+      (sym (says found.0 true f (item_and (p.at found.0) (λ x. Called g f (x, tt) true f) (up.3 found.0 found.1 ∙ ap Some (zero-add found.0)) found.2)).1)
+      10 0 (omega arith) (omega (arith, found.1, up.0)))
+  exact_by false p up h =
+      sym (exact_none d ticks 10 0 (λ k a b.
+      sym (says k false f (item_is (p.at k) (λ x. Called g f (x, tt) false f) (up.3 k (omega (arith, up.1 h.0)) ∙ ap Some (zero-add k)) (h.1 keeps_test k))).1))
+
+  pub exact_is : (result : Bool)
+      → SomeRun nat_range_steps (record { start = 0; end = 10 }) (λ p. MatchBool result (AnyItemGives p g f true) (IsTrue p.whole × AllItemsGive p g f false))
+      → result ≡ is_exact d ticks 10 0
+  exact_is result run = exact_by result run.0 (subst (λ s. ItemsCountUp run.0 s.start s.end) run.1 (range_runs run.0 run.0.seen)) run.2

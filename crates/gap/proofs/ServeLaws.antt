@@ -1,31 +1,31 @@
 -- What the next rest takes: whole ticks above 0, no more than are left, exactly as long as its NOTE lasts.
+use Rattle.std.specs.Prelude.{Option, None, Some}
 use mathlib.Core.Path.{◌≡◌, refl, sym, ap, ◌∙◌}
 use Prim.Native.Nat.{ℕ, zero, suc, ◌+◌, ◌*◌, ◌/◌, ◌^◌, ◌≤◌, ◌<◌}
 use native.Mathlib.Nat.{mul_comm, mul_assoc, mul-one, mul-mul-mul_comm, div-mul_cancel, zero-mul}
 use native.Mathlib.Omega.{arith}
 use mathlib.Core.Bool.{Bool, true, false, cond, ◌&&◌}
 use lib.Dec.{eqb, leb}
-use borrow.Author.Tests.{eqb-true, eqb-false, leb-true, leb-false, le-leb, ne_eqb}
+use borrow.Author.Tests.{eqb-true, leb-true, leb-false, le-leb, ne_eqb}
 use Rattle.duration.specs.Duration.{gcd_of}
 use Rattle.duration.specs.Length.{◌over◌, SameLength, value_length, dot_factor, tuplet_factor, note_length}
 use Rattle.duration.proofs.Divisors.{gcd_divides}
-use Rattle.gap.specs.Values.{ticks_of, triplet_by, in_tuplet, tuplet_by, plain_by}
+use Rattle.gap.specs.Values.{ticks_of, tried, rest, triplet_by, in_tuplet, tuplet_by, plain_by}
 use Rattle.gap.specs.Next.{or_else, longest_from, longest, shortest_below, is_exact, tuplet_of, next_rest}
-use Rattle.gap.specs.declared.Next.{Next}
-use Rattle.gap.specs.declared.Next.TheVariants.{None, Rest}
-use Rattle.gap.proofs.ValueLaws.{ticks_exact}
+use Rattle.gap.specs.declared.Rest.{Rest}
+use Rattle.gap.proofs.ValueLaws.{Whole, ticks_whole}
 
-pub record Serves (divisions ticks value actual normal taken : ℕ) : Type 0 where
-  pub value_in : value < 10
-  pub actual_in : actual < 256
-  pub normal_in : normal < 256
-  pub some : 0 < taken
-  pub high : taken ≤ ticks
-  pub same : SameLength (note_length value 0 actual normal false) (taken over (divisions * 4))
+pub record Serves (divisions ticks : ℕ) (r : Rest) : Type 0 where
+  pub value_in : r.value < 10
+  pub actual_in : r.actual < 256
+  pub normal_in : r.normal < 256
+  pub some : 0 < r.ticks
+  pub high : r.ticks ≤ ticks
+  pub same : SameLength (note_length r.value 0 r.actual r.normal false) (r.ticks over (divisions * 4))
 
-abbrev pub Good : ℕ → ℕ → Next → Type 0
+abbrev pub Good : ℕ → ℕ → Option Rest → Type 0
 Good divisions ticks None = Unit {0}
-Good divisions ticks (Rest value actual normal taken) = Serves divisions ticks value actual normal taken
+Good divisions ticks (Some r) = Serves divisions ticks r
 
 -- ---- lengths
 
@@ -52,22 +52,29 @@ tuplet_length v d b t a m h e q n =
 -- ---- each value as it is tried
 
 module _ (d ticks v : ℕ) (some : 0 < ticks) (h : v < 10) where
+  by_base : (by : ℕ → Option Rest) → ((base : ℕ) → Whole d v base → Good d ticks (by base)) → Good d ticks (tried by (ticks_of d v))
+  by_base by each = go (ticks_of d v) refl
+    where
+      go : (o : Option ℕ) → ticks_of d v ≡ o → Good d ticks (tried by o)
+      go None e = tt
+      go (Some base) e = each base (ticks_whole d v e)
+
   triplet_good : Good d ticks (triplet_by d ticks v)
   unfolding triplet_by
-  triplet_good = go (eqb (ticks_of d v * 2) (ticks * 3)) refl
+  triplet_good = by_base (λ base. cond (eqb (base * 2) (ticks * 3)) (Some (rest v 3 2 ticks)) None) (λ base w. go base w (eqb (base * 2) (ticks * 3)) refl)
     where
-      go : (t : Bool) → eqb (ticks_of d v * 2) (ticks * 3) ≡ t → Good d ticks (cond t (Rest v 3 2 ticks) None)
-      go true e =
-          let q : ticks_of d v * 2 ≡ ticks * 3 = eqb-true _ _ e in
+      go : (base : ℕ) → Whole d v base → (t : Bool) → eqb (base * 2) (ticks * 3) ≡ t → Good d ticks (cond t (Some (rest v 3 2 ticks)) None)
+      go base w true e =
+          let q : base * 2 ≡ ticks * 3 = eqb-true _ _ e in
           record {
             value_in = h;
             actual_in = omega arith;
             normal_in = omega arith;
             some = some;
             high = omega arith;
-            same = tuplet_length v d (ticks_of d v) ticks 3 2 h (ticks_exact d v (omega arith)) (omega arith) (λ z. omega arith);
+            same = tuplet_length v d base ticks 3 2 h w.exact (omega arith) (λ z. omega arith);
           }
-      go false e = tt
+      go base w false e = tt
 
   in_tuplet_lem : (b : ℕ) → ticks < b → b * 2 ^ v ≡ d * 16 → Good d ticks (in_tuplet v b ticks (gcd_of b ticks))
   in_tuplet_lem b low e = go (leb (b / g) 255) (leb (ticks / g) 255) refl refl
@@ -87,7 +94,7 @@ module _ (d ticks v : ℕ) (some : 0 < ticks) (h : v < 10) where
           ∙ sym (mul_assoc (ticks / g) g (b / g))
           ∙ ap (λ (x : ℕ). x * (b / g)) of_ticks
 
-      go : (x y : Bool) → leb (b / g) 255 ≡ x → leb (ticks / g) 255 ≡ y → Good d ticks (cond (x && y) (Rest v (b / g) (ticks / g) ticks) None)
+      go : (x y : Bool) → leb (b / g) 255 ≡ x → leb (ticks / g) 255 ≡ y → Good d ticks (cond (x && y) (Some (rest v (b / g) (ticks / g) ticks)) None)
       go true true p q = record {
         value_in = h;
         actual_in = omega (arith, leb-true (b / g) 255 p);
@@ -101,47 +108,41 @@ module _ (d ticks v : ℕ) (some : 0 < ticks) (h : v < 10) where
 
   tuplet_good : Good d ticks (tuplet_by d ticks v)
   unfolding tuplet_by
-  tuplet_good = go (leb (ticks_of d v) ticks) refl
+  tuplet_good = by_base (λ base. cond (leb base ticks) None (in_tuplet v base ticks (gcd_of base ticks))) (λ base w. go base w (leb base ticks) refl)
     where
-      go : (t : Bool) → leb (ticks_of d v) ticks ≡ t → Good d ticks (cond t None (in_tuplet v (ticks_of d v) ticks (gcd_of (ticks_of d v) ticks)))
-      go true e = tt
-      go false e =
-          let low : ticks < ticks_of d v = leb-false _ _ e in
-          in_tuplet_lem (ticks_of d v) low (ticks_exact d v (omega arith))
+      go : (base : ℕ) → Whole d v base → (t : Bool) → leb base ticks ≡ t → Good d ticks (cond t None (in_tuplet v base ticks (gcd_of base ticks)))
+      go base w true e = tt
+      go base w false e = in_tuplet_lem base (leb-false _ _ e) w.exact
 
   plain_good : Good d ticks (plain_by d ticks v)
   unfolding plain_by
-  plain_good = go (eqb (ticks_of d v) 0) (leb (ticks_of d v) ticks) refl refl
+  plain_good = by_base (λ base. cond (leb base ticks) (Some (rest v 0 0 base)) None) (λ base w. go base w (leb base ticks) refl)
     where
-      go : (x y : Bool) → eqb (ticks_of d v) 0 ≡ x → leb (ticks_of d v) ticks ≡ y
-          → Good d ticks (cond x None (cond y (Rest v 0 0 (ticks_of d v)) None))
-      go true y p q = tt
-      go false false p q = tt
-      go false true p q =
-          let n : ticks_of d v ≡ 0 → ⊥ = eqb-false _ _ p in
-          record {
-            value_in = h;
-            actual_in = omega arith;
-            normal_in = omega arith;
-            some = omega arith;
-            high = leb-true _ _ q;
-            same = plain_length v d (ticks_of d v) h (ticks_exact d v (omega arith));
-          }
+      go : (base : ℕ) → Whole d v base → (t : Bool) → leb base ticks ≡ t → Good d ticks (cond t (Some (rest v 0 0 base)) None)
+      go base w false q = tt
+      go base w true q = record {
+        value_in = h;
+        actual_in = omega arith;
+        normal_in = omega arith;
+        some = w.some;
+        high = leb-true _ _ q;
+        same = plain_length v d base h w.exact;
+      }
 
 -- ---- the first that serves
 
 module _ (d ticks : ℕ) where
-  or_good : (a b : Next) → Good d ticks a → Good d ticks b → Good d ticks (or_else a b)
+  or_good : (a b : Option Rest) → Good d ticks a → Good d ticks b → Good d ticks (or_else a b)
   or_good None b p q = q
-  or_good (Rest value actual normal taken) b p q = p
+  or_good (Some r) b p q = p
 
-  longest_good : (by : ℕ → Next) → ((v : ℕ) → v < 10 → Good d ticks (by v)) → (n v : ℕ) → v + n ≤ 10 → Good d ticks (longest_from by n v)
+  longest_good : (by : ℕ → Option Rest) → ((v : ℕ) → v < 10 → Good d ticks (by v)) → (n v : ℕ) → v + n ≤ 10 → Good d ticks (longest_from by n v)
   unfolding longest_from
   longest_good by each zero v h = tt
   longest_good by each (suc n) v h =
       or_good (by v) (longest_from by n (v + 1)) (each v (omega arith)) (longest_good by each n (v + 1) (omega arith))
 
-  shortest_good : (by : ℕ → Next) → ((v : ℕ) → v < 10 → Good d ticks (by v)) → (n : ℕ) → n ≤ 10 → Good d ticks (shortest_below by n)
+  shortest_good : (by : ℕ → Option Rest) → ((v : ℕ) → v < 10 → Good d ticks (by v)) → (n : ℕ) → n ≤ 10 → Good d ticks (shortest_below by n)
   unfolding shortest_below
   shortest_good by each zero h = tt
   shortest_good by each (suc n) h = or_good (by n) (shortest_below by n) (each n (omega arith)) (shortest_good by each n (omega arith))

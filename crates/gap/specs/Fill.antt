@@ -1,59 +1,62 @@
 -- The rests of a hole, one after the other.
-use Rattle.std.specs.Prelude.{◌≡◌, ℕ, zero, suc, ◌+◌, ◌-◌, ◌≤◌, cond, List, [], ◌∷◌, eqb, length}
+use Rattle.std.specs.Prelude.{◌≡◌, ℕ, zero, suc, ◌+◌, ◌-◌, ◌≤◌, cond, List, [], ◌∷◌, eqb, length, Option, None, Some, Result, Ok, Err}
 use Rattle.sheet.specs.declared.Note.{Note}
 use Rattle.sheet.specs.Record.{Record, NOTE, records_bytes}
 use Rattle.gap.specs.Next.{next_rest}
-use Rattle.gap.specs.declared.Next.TheVariants.{None, Rest}
-use Rattle.gap.specs.declared.Count.{Count}
-use Rattle.gap.specs.declared.Count.TheVariants.{Turned, Rests}
+use Rattle.gap.specs.declared.Rest.{Rest}
+use Rattle.gap.specs.declared.Hole.{Hole}
+use Rattle.gap.specs.declared.Refusal.{Refusal}
+use Rattle.gap.specs.declared.Refusal.TheVariants.{NoValue, Full}
 
 -- "hidden rests .. as NOTE records with part, voice, bar, line and column zero": flag bits 0 rest and 7 hidden
-abbrev pub rest_note : ℕ → ℕ → ℕ → Note
-rest_note value actual normal = record {
+abbrev pub rest_note : Rest → Note
+rest_note r = record {
   part = 0;
   voice = 0;
-  value = value;
+  value = r.value;
   bar = 0;
   line = 0;
   column = 0;
   dots = 0;
   flags = 129;
-  actual = actual;
-  normal = normal;
+  actual = r.actual;
+  normal = r.normal;
   beam = 0;
   pitches = 0;
   articulations = 0;
 }
 
--- the number that turns a hole away, or its rests
-pub data Fill : Type 0 where
-  turned : ℕ → Fill
-  filled : List Note → Fill
+-- why a hole is turned away, or its rests
+abbrev pub Fill : Type 0
+Fill = Result (List Note) Refusal
 
 abbrev pub more : Note → Fill → Fill
-more n (turned number) = turned number
-more n (filled ns) = filled (n ∷ ns)
+more n (Err e) = Err e
+more n (Ok ns) = Ok (n ∷ ns)
 
 -- "14, some ticks remain and no value fits them; 15, the voice .. would pass 50,000 notes. The one reached first is given":
 -- `room` is how many more notes the voice may have
 unfoldable pub fill_from : ℕ → ℕ → ℕ → Fill
 fill_from zero divisions ticks =
-    cond (eqb ticks 0) (filled [])
+    cond (eqb ticks 0) (Ok [])
     (elim (next_rest divisions ticks) [
-      | None ↦ turned 14
-      | Rest value actual normal taken ↦ turned 15
+      | None ↦ Err NoValue
+      | Some rest ↦ Err Full
     ])
 fill_from (suc room) divisions ticks =
-    cond (eqb ticks 0) (filled [])
+    cond (eqb ticks 0) (Ok [])
     (elim (next_rest divisions ticks) [
-      | None ↦ turned 14
-      | Rest value actual normal taken ↦ more (rest_note value actual normal) (fill_from room divisions (ticks - taken))
+      | None ↦ Err NoValue
+      | Some rest ↦ more (rest_note rest) (fill_from room divisions (ticks - rest.ticks))
     ])
 
+abbrev pub fill_hole : Hole → Fill
+fill_hole h = fill_from h.room h.divisions h.left
+
 -- how many rests, with n before them
-abbrev pub counted : ℕ → Fill → Count
-counted n (turned number) = Turned number
-counted n (filled ns) = Rests (n + length ns)
+abbrev pub counted : ℕ → Fill → Result ℕ Refusal
+counted n (Err e) = Err e
+counted n (Ok ns) = Ok (n + length ns)
 
 -- the bytes of the rests
 abbrev pub records : List Note → List Record
@@ -66,5 +69,18 @@ rests_bytes ns = records_bytes (records ns)
 -- a hole that rests fill, for which a buffer has room
 pub record Filling (room divisions ticks : ℕ) (out : List ℕ) : Type 0 where
   pub rests : List Note
-  pub same : fill_from room divisions ticks ≡ filled rests
+  pub same : fill_from room divisions ticks ≡ Ok rests
   pub long : length (rests_bytes rests) ≤ length out
+
+-- a rest taken out of a hole leaves the rest of it, in a voice with one note more
+pub record Leaves (old new : Hole) (rest : Rest) : Type 0 where
+  pub fills : fill_hole old ≡ more (rest_note rest) (fill_hole new)
+  pub divisions : new.divisions ≡ old.divisions
+  pub left : new.left + rest.ticks ≡ old.left
+  pub room : new.room + 1 ≡ old.room
+
+-- what comes out of a hole: a rest, nothing where it is filled, or why it is turned away
+abbrev pub Taken : Hole → Hole → Result (Option Rest) Refusal → Type 0
+Taken old new (Err e) = fill_hole old ≡ Err e
+Taken old new (Ok None) = fill_hole old ≡ Ok []
+Taken old new (Ok (Some rest)) = Leaves old new rest

@@ -4,8 +4,6 @@ ghost use Rattle.gap.specs.Answer.{gap_answer, gap_buffer};
 ghost use Rattle.gap.specs.Exact.{FilledWith};
 ghost use Rattle.kern_ffi.specs.Answer.{number_of, three_of};
 
-use gap::Answer;
-
 // Fills a hole of so many ticks, at so many divisions to the quarter, with hidden rests at the start of a lent buffer, for a voice of so
 // many notes. The number of the refusal, or 0; `answer` is then number, line and figure of the refusal, or 0, 0 and the rests' length.
 #[unsafe(no_mangle)]
@@ -22,17 +20,14 @@ pub extern "C" fn kern_gap_rests(
     ensures filled { result ≡ 0 → FilledWith ticks divisions out.old out.new }
 {
     match gap::gap_rests(ticks, divisions, notes, out) {
-        Answer::Refused {
-            number,
-            line,
-            figure,
-        } => {
-            *answer = [number as u64, line as u64, figure as u64];
-            number as u32
-        }
-        Answer::Accepted(long) => {
+        Ok(long) => {
             *answer = [0, 0, long as u64];
             0
+        }
+        Err(refusal) => {
+            let number = refusal.number();
+            *answer = [number as u64, 0, refusal.figure() as u64];
+            number as u32
         }
     }
 }

@@ -2,8 +2,8 @@
 
 // Answers requests about the reader's leaves, a request and an answer to a line. The first byte of a request names the leaf.
 use duration::Value;
-use gap::Answer;
 use interpretation::Interpretation;
+use names::SpineName;
 use notation::beam::Beam;
 use pitch::Pitch;
 use reference::Key;
@@ -20,15 +20,9 @@ fn next_number(n: u64) {
 
 // The number that up to three digits write.
 fn small_number(s: &[u8]) -> u64 {
-    let mut n: u64 = 0;
-    let mut i = 0;
-    while i < s.len() {
-        if i < 3 {
-            n = n % 1000 * 10 + (s[i] % 16) as u64;
-        }
-        i += 1;
-    }
-    n
+    s.iter()
+        .take(3)
+        .fold(0, |n, b| n % 1000 * 10 + u64::from(b % 16))
 }
 
 // D: digits, to value, actual, normal.
@@ -73,12 +67,9 @@ fn pitch_of(run: &[u8]) {
 
 // A: signs, to the alteration's byte.
 fn alteration_of(signs: &[u8]) {
-    let mut alter: u8 = 128;
-    let mut i = 0;
-    while i < signs.len() {
-        alter = pitch::altered(alter, signs[i]);
-        i += 1;
-    }
+    let alter = signs
+        .iter()
+        .fold(128, |alter, sign| pitch::altered(alter, *sign));
     let byte = pitch::alter_byte(alter);
     io::print_decimal(1, byte as u64);
 }
@@ -184,26 +175,22 @@ fn reference_of(record: &[u8]) {
 
 // N: a notice's number, to its code and reason.
 fn notice_of(number: u8) {
-    let words = notice::words();
-    print(notice::code(&words[..], number));
+    print(notice::code(number).unwrap_or("").as_bytes());
     print(b"|");
-    print(notice::reason(&words[..], number));
+    print(notice::reason(number).unwrap_or("").as_bytes());
 }
 
 // S: a part, to the name it has where none is given.
 fn name_of(part: u8) {
-    let names = names::fallback_names();
-    print(names::part_name(b"", &names[..], false, 0, 0, part));
+    let fallback = SpineName::new(part);
+    print(names::part_name(b"", None, fallback.as_bytes()));
 }
 
 // The number that up to ten digits write, below 2^32.
 fn number_of(s: &[u8]) -> u32 {
-    let mut n: u64 = 0;
-    let mut i = 0;
-    while i < s.len() {
-        n = n % 1000000000 * 10 + (s[i] % 16) as u64;
-        i += 1;
-    }
+    let n = s
+        .iter()
+        .fold(0, |n, b| n % 1000000000 * 10 + u64::from(b % 16));
     (n % 4294967296) as u32
 }
 
@@ -223,16 +210,10 @@ fn before_blank(s: &[u8]) -> &[u8] {
 
 // Value, actual and normal of each rest of so many bytes.
 fn print_rests(rests: &[u8]) {
-    let mut i = 0;
-    while i < rests.len() {
-        if 28 <= rests.len() - i {
-            next_number(rests[i + 3] as u64);
-            next_number(rests[i + 16] as u64);
-            next_number(rests[i + 17] as u64);
-            i += 28;
-        } else {
-            i = rests.len();
-        }
+    for rest in rests.chunks_exact(28) {
+        next_number(u64::from(rest[3]));
+        next_number(u64::from(rest[16]));
+        next_number(u64::from(rest[17]));
     }
 }
 
@@ -248,19 +229,15 @@ fn print_hole(body: &[u8], out: &mut [u8]) {
         return;
     }
     match gap::gap_rests(ticks, divisions, notes, &mut out[..room]) {
-        Answer::Refused {
-            number,
-            line,
-            figure,
-        } => {
-            io::print_decimal(1, number as u64);
-            next_number(line as u64);
-            next_number(figure as u64);
-        }
-        Answer::Accepted(long) => {
+        Ok(long) => {
             print(b"0 0");
             next_number(long as u64);
             print_rests(slices::piece(out, 0, long));
+        }
+        Err(refusal) => {
+            io::print_decimal(1, refusal.number() as u64);
+            print(b" 0");
+            next_number(refusal.figure() as u64);
         }
     }
 }

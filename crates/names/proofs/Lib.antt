@@ -1,2 +1,2 @@
--- Laws about the fallback names, for the proofs here and above. No contract cites these.
+-- The names that the first and the last part fall back to. No contract cites these.
 pub mod NameLaws

@@ -1,9 +1,7 @@
 -- The notices' codes and reasons, spelled as the source has them.
-use Rattle.std.specs.Prelude.{ℕ, ◌+◌, List, [], ◌∷◌, ◌++◌, length, get_or}
+use Rattle.std.specs.Prelude.{ℕ, List, [], ◌∷◌, ◌++◌, get_or}
 use Prim.Native.String.{String}
 use Rattle.slices.specs.Ascii.{ascii}
-use Rattle.slices.specs.Split.{piece_at}
-use Rattle.notice.specs.declared.Row.{Row}
 
 -- what the table has of a number
 pub record Entry : Type 0 where
@@ -51,26 +49,3 @@ code_of n = (get_or table n nothing).code
 
 abbrev pub reason_of : ℕ → List ℕ
 reason_of n = (get_or table n nothing).reason
-
--- the codes and reasons of some entries, one after the other
-unfoldable pub spelled : List Entry → List ℕ
-spelled [] = []
-spelled (e ∷ es) = e.code ++ (e.reason ++ spelled es)
-
--- where the entries' codes and reasons stand when they are spelled from `at` on
-unfoldable pub rows_from : ℕ → List Entry → List Row
-rows_from at [] = []
-rows_from at (e ∷ es) = (at, length e.code, length e.reason) ∷ rows_from (at + length e.code + length e.reason) es
-
-abbrev pub wording : List ℕ
-wording = spelled table
-
-abbrev pub row_of : ℕ → Row
-row_of n = get_or (rows_from 0 table) n (0, 0, 0)
-
--- the pieces of a lent wording that are a notice's code and reason
-abbrev pub code_in : List ℕ → ℕ → List ℕ
-code_in words n = piece_at words (row_of n).0 (row_of n).1
-
-abbrev pub reason_in : List ℕ → ℕ → List ℕ
-reason_in words n = piece_at words ((row_of n).0 + (row_of n).1) (row_of n).2

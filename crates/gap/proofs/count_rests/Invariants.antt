@@ -2,8 +2,8 @@
 use Rattle.gap.proofs.FillLaws.{Counting}
 use Rattle.gap.proofs.count_rests.Given as goal
 
-abbrev pub invariant-loop-left : goal.invariant-loop-left
-invariant-loop-left l = Counting l.divisions l.ticks l.room l.left l.free l.n
+abbrev pub invariant-loop-n : goal.invariant-loop-n
+invariant-loop-n l = Counting l.fn.hole l.hole l.n
 
-abbrev pub decreases-loop-left : goal.decreases-loop-left
-decreases-loop-left l = l.free
+abbrev pub decreases-loop-n : goal.decreases-loop-n
+decreases-loop-n l = l.hole.room

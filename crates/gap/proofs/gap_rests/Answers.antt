@@ -1,22 +1,33 @@
--- By what the hole comes to.
+-- What the rests come to is what the hole comes to.
+use Rattle.std.proofs.Common.{rules}
+use Rattle.std.specs.Prelude.{Err}
+use mathlib.Core.Path.{◌≡◌, sym, subst, ◌∙◌}
 use native.Mathlib.Omega.{arith}
-use Rattle.gap.proofs.AnswerLaws.{turned_away, few_bytes, too_short, can_fill, is_filled}
+use Rattle.gap.proofs.AnswerLaws.{Answers, turned_away, few_bytes, too_short, can_fill, is_filled}
 use Rattle.gap.proofs.gap_rests.Goals as goal
 
+pub returns-in_err-long : goal.returns-in_err-long
+returns-in_err-long c =
+    let is : c.from_residual.result ≡ Err c.in_err-long.field-0.0 = search rules in
+    let a = turned_away c.args.ticks c.args.divisions c.args.notes c.args.out.now c.saturating_sub.ensures (sym c.in_err-long.was ∙ c.count_rests.ensures) in
+    let all = subst (Answers c.args.ticks c.args.divisions c.args.notes c.args.out.now c.args.out.now) (sym is) a in
+    record { answer = all.answer; buffer = all.buffer; numbered = all.numbered; filled = all.filled }
+
 pub overflow_mul-long : goal.overflow_mul-long
-overflow_mul-long c = omega (arith, few_bytes c.args.ticks c.args.divisions c.args.notes c.args.out.now c.room_for-room.ensures c.count_rests.ensures c.in-Rests.is)
+overflow_mul-long c =
+    let few = few_bytes c.args.ticks c.args.divisions c.args.notes c.args.out.now c.saturating_sub.ensures (sym c.in_ok-long.was ∙ c.count_rests.ensures) in
+    record { fits = omega (arith, few) }
 
 pub returns-then-out-long : goal.returns-then-out-long
-returns-then-out-long c = let all = too_short c.args.ticks c.args.divisions c.args.notes c.args.out.now c.room_for-room.ensures c.count_rests.ensures c.in-Rests.is (omega arith) in
-    record { answer = all.0; buffer = all.1.0; numbered = all.1.1.0; filled = all.1.1.1 }
+returns-then-out-long c =
+    let all = too_short c.args.ticks c.args.divisions c.args.notes c.args.out.now c.saturating_sub.ensures (sym c.in_ok-long.was ∙ c.count_rests.ensures) c.if-out-long.true in
+    record { answer = all.answer; buffer = all.buffer; numbered = all.numbered; filled = all.filled }
 
 pub write_rests-requires : goal.write_rests-requires
-write_rests-requires c = can_fill c.args.ticks c.args.divisions c.args.notes c.args.out.now c.room_for-room.ensures c.count_rests.ensures c.in-Rests.is c.if-out-long.false
+write_rests-requires c =
+    can_fill c.args.ticks c.args.divisions c.args.notes c.args.out.now c.saturating_sub.ensures (sym c.in_ok-long.was ∙ c.count_rests.ensures) c.if-out-long.false
 
-pub returns-in-Turned : goal.returns-in-Turned
-returns-in-Turned c = let all = turned_away c.args.ticks c.args.divisions c.args.notes c.args.out.now c.room_for-room.ensures c.count_rests.ensures c.in-Turned.is in
-    record { answer = all.0; buffer = all.1.0; numbered = all.1.1.0; filled = all.1.1.1 }
-
-pub returns-else-out-long : goal.returns-else-out-long
-returns-else-out-long c = let all = is_filled c.args.ticks c.args.divisions c.args.notes c.args.out.now c.room_for-room.ensures c.count_rests.ensures c.in-Rests.is c.if-out-long.false c.write_rests.ensures in
-    record { answer = all.0; buffer = all.1.0; numbered = all.1.1.0; filled = all.1.1.1 }
+pub returns : goal.returns
+returns c =
+    let all = is_filled c.args.ticks c.args.divisions c.args.notes c.args.out.now c.saturating_sub.ensures (sym c.in_ok-long.was ∙ c.count_rests.ensures) c.if-out-long.false c.write_rests.ensures in
+    record { answer = all.answer; buffer = all.buffer; numbered = all.numbered; filled = all.filled }

@@ -1,17 +1,18 @@
--- By two tests.
+-- The value fits, or not.
+use mathlib.Core.Path.{◌∙◌}
 use native.Mathlib.Omega.{arith}
-use borrow.Author.Tests.{eq-eqb, ne_eqb, le-leb, lt-leb}
+use borrow.Author.Tests.{le-leb, lt-leb}
 use Rattle.gap.specs.Values.{plain_by}
 use Rattle.gap.proofs.plain_by.Goals as goal
 
-pub returns-then-base-eq0 : goal.returns-then-base-eq0
+pub returns-in_err-base : goal.returns-in_err-base
 unfolding plain_by
-returns-then-base-eq0 c = rw (← c.ticks_of-base.ensures, eq-eqb _ _ c.if-base-eq0.true)
+returns-in_err-base c = c.from_residual.ensures ∙ rw (← c.ticks_of.ensures, c.in_err-base.was)
 
 pub returns-then-ticks-base : goal.returns-then-ticks-base
 unfolding plain_by
-returns-then-ticks-base c = rw (← c.ticks_of-base.ensures, ne_eqb _ _ c.if-base-eq0.false, lt-leb c.ticks_of-base.result c.args.ticks (omega arith))
+returns-then-ticks-base c = rw (← c.ticks_of.ensures, c.in_ok-base.was, lt-leb c.in_ok-base.base c.args.ticks (omega arith))
 
 pub returns : goal.returns
 unfolding plain_by
-returns c = rw (← c.ticks_of-base.ensures, ne_eqb _ _ c.if-base-eq0.false, le-leb _ _ c.if-ticks-base.false)
+returns c = rw (← c.ticks_of.ensures, c.in_ok-base.was, le-leb c.in_ok-base.base c.args.ticks c.if-ticks-base.false)

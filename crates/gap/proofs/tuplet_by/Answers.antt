@@ -1,28 +1,42 @@
 -- By the tests, over a divisor that is not 0.
+use mathlib.Core.Path.{sym, ◌∙◌}
 use native.Mathlib.Omega.{arith}
 use borrow.Author.Tests.{le-leb, lt-leb}
 use Rattle.duration.proofs.Divisors.{gcd_positive}
 use Rattle.gap.specs.Values.{tuplet_by}
+use Rattle.gap.proofs.ValueLaws.{no_byte, a_byte}
 use Rattle.gap.proofs.tuplet_by.Goals as goal
+
+pub returns-in_err-base : goal.returns-in_err-base
+unfolding tuplet_by
+returns-in_err-base c = c.from_residual.ensures ∙ rw (← c.ticks_of.ensures, c.in_err-base.was)
 
 pub returns-then-base-ticks : goal.returns-then-base-ticks
 unfolding tuplet_by
-returns-then-base-ticks c = rw (← c.ticks_of-base.ensures, le-leb _ _ c.if-base-ticks.true)
+returns-then-base-ticks c = rw (← c.ticks_of.ensures, c.in_ok-base.was, le-leb c.in_ok-base.base c.args.ticks c.if-base-ticks.true)
 
-pub nonzero_div-actual : goal.nonzero_div-actual
-nonzero_div-actual c = rw c.gcd-divisor.ensures (gcd_positive _ _ _ (omega (arith, c.if-base-ticks.false)))
+pub nonzero_div-base : goal.nonzero_div-base
+nonzero_div-base c = rw c.gcd-divisor.ensures (gcd_positive _ _ _ (omega (arith, c.if-base-ticks.false)))
 
-pub nonzero_div-normal : goal.nonzero_div-normal
-nonzero_div-normal c = rw c.gcd-divisor.ensures (gcd_positive _ _ _ (omega (arith, c.if-base-ticks.false)))
-
-pub returns-then-actual-gt255 : goal.returns-then-actual-gt255
+pub returns-in_err-actual : goal.returns-in_err-actual
 unfolding tuplet_by
-returns-then-actual-gt255 c = rw (← c.ticks_of-base.ensures, lt-leb _ _ c.if-base-ticks.false, ← c.gcd-divisor.ensures, lt-leb _ _ c.if-actual-gt255.true)
+returns-in_err-actual c =
+    c.from_residual-in_err-actual.ensures
+    ∙ rw (← c.ticks_of.ensures, c.in_ok-base.was, lt-leb c.in_ok-base.base c.args.ticks c.if-base-ticks.false, ← c.gcd-divisor.ensures, no_byte _ c.try_from.result c.try_from.ensures (sym c.ok.ensures.value ∙ c.in_err-actual.was))
 
-pub returns-then-normal-gt255 : goal.returns-then-normal-gt255
+pub nonzero_div-ticks : goal.nonzero_div-ticks
+nonzero_div-ticks c = rw c.gcd-divisor.ensures (gcd_positive _ _ _ (omega (arith, c.if-base-ticks.false)))
+
+pub returns-in_err-normal : goal.returns-in_err-normal
 unfolding tuplet_by
-returns-then-normal-gt255 c = rw (← c.ticks_of-base.ensures, lt-leb _ _ c.if-base-ticks.false, ← c.gcd-divisor.ensures, le-leb _ _ c.if-actual-gt255.false, lt-leb _ _ c.if-normal-gt255.true)
+returns-in_err-normal c =
+    let actual = a_byte _ c.try_from.result c.try_from.ensures (sym c.ok.ensures.value ∙ c.in_ok-actual.was) in
+    c.from_residual-in_err-normal.ensures
+    ∙ rw (← c.ticks_of.ensures, c.in_ok-base.was, lt-leb c.in_ok-base.base c.args.ticks c.if-base-ticks.false, ← c.gcd-divisor.ensures, actual.0, no_byte _ c.try_from-2.result c.try_from-2.ensures (sym c.ok-2.ensures.value ∙ c.in_err-normal.was))
 
 pub returns : goal.returns
 unfolding tuplet_by
-returns c = rw (← c.ticks_of-base.ensures, lt-leb _ _ c.if-base-ticks.false, ← c.gcd-divisor.ensures, le-leb _ _ c.if-actual-gt255.false, le-leb _ _ c.if-normal-gt255.false)
+returns c =
+    let actual = a_byte _ c.try_from.result c.try_from.ensures (sym c.ok.ensures.value ∙ c.in_ok-actual.was) in
+    let normal = a_byte _ c.try_from-2.result c.try_from-2.ensures (sym c.ok-2.ensures.value ∙ c.in_ok-normal.was) in
+    rw (← c.ticks_of.ensures, c.in_ok-base.was, lt-leb c.in_ok-base.base c.args.ticks c.if-base-ticks.false, ← c.gcd-divisor.ensures, actual.0, normal.0, actual.1, normal.1)
