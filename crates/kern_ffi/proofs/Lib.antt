@@ -1,5 +1,4 @@
 -- Laws of the reader's answer and of the texts lent out.
 pub mod AnswerLaws
-pub mod WordLaws
 pub mod GapLaws
 pub mod LineLaws

@@ -1,5 +1,6 @@
 -- The reader's answer as the library gives it.
-use Rattle.std.specs.Prelude.{ℕ, Bool, not, List, [], ◌∷◌, eqb}
+use Rattle.std.specs.Prelude.{ℕ, List, [], ◌∷◌, cond, eqb, Option, None, Some}
+use Rattle.sheet.specs.declared.Span.{Span}
 use Rattle.holders.specs.declared.Holder.{Holder}
 
 -- the number of the refusal, 0 for an acceptance
@@ -14,9 +15,9 @@ figure_of a = a.2
 abbrev pub three_of : ℕ × ℕ × ℕ → List ℕ
 three_of a = a.0 ∷ a.1 ∷ a.2 ∷ []
 
--- a sheet's byte that says whether a name is given
-abbrev pub is_given : ℕ → Bool
-is_given given = not (eqb given 0)
+-- a sheet's byte that says whether a name is given, and where the name then stands
+abbrev pub given_name : ℕ → ℕ → ℕ → Option Span
+given_name given at len = cond (eqb given 0) None (Some (record { at = at; len = len }))
 
 -- the entries of a list as numbers: column, voice and header column of each
 unfoldable pub entry_numbers : List Holder → List ℕ

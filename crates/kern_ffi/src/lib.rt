@@ -12,10 +12,12 @@ ghost use Rattle.account.specs.Reached.{Question8, Question17};
 ghost use Rattle.demand.specs.Played.{Played};
 ghost use Rattle.reader.specs.Answer.{numbers_of};
 ghost use Rattle.notice.specs.Table.{code_of, reason_of};
-ghost use Rattle.names.specs.Names.{fallback_names, name_of};
-ghost use Rattle.kern_ffi.specs.Answer.{number_of, figure_of, three_of, is_given};
+ghost use Rattle.names.specs.Names.{spine_name, name_of};
+ghost use Rattle.kern_ffi.specs.Answer.{number_of, figure_of, three_of, given_name};
 
+use names::SpineName;
 use refusal::Refusal;
+use sheet::Span;
 
 // The answer's numbers in a lent array: number, line and figure of the refusal, or 0, 0 and the sheet's length. The number is returned.
 fn put_answer(answer: &mut [u64; 3], said: Result<usize, Refusal>) -> u32
@@ -59,9 +61,8 @@ pub extern "C" fn kern_notice_code(number: u8, out: &mut [u8]) -> usize
     ensures length { result ≡ length (code_of number) }
     ensures buffer { out.new ≡ stored out.old (code_of number) }
 {
-    let words = notice::words();
-    let code = notice::code(&words[..], number);
-    slices::put(out, code);
+    let code = notice::code(number).unwrap_or("");
+    slices::put(out, code.as_bytes());
     code.len()
 }
 
@@ -71,9 +72,8 @@ pub extern "C" fn kern_notice_reason(number: u8, out: &mut [u8]) -> usize
     ensures length { result ≡ length (reason_of number) }
     ensures buffer { out.new ≡ stored out.old (reason_of number) }
 {
-    let words = notice::words();
-    let reason = notice::reason(&words[..], number);
-    slices::put(out, reason);
+    let reason = notice::reason(number).unwrap_or("");
+    slices::put(out, reason.as_bytes());
     reason.len()
 }
 
@@ -87,11 +87,12 @@ pub extern "C" fn kern_part_name(
     part: u8,
     out: &mut [u8],
 ) -> usize
-    ensures length { result ≡ length (name_of text.now fallback_names (is_given given) at len part) }
-    ensures buffer { out.new ≡ stored out.old (name_of text.now fallback_names (is_given given) at len part) }
+    ensures length { result ≡ length (name_of text.now (given_name given at len) (spine_name part)) }
+    ensures buffer { out.new ≡ stored out.old (name_of text.now (given_name given at len) (spine_name part)) }
 {
-    let fallback = names::fallback_names();
-    let name = names::part_name(text, &fallback[..], given != 0, at, len, part);
+    let given = if given == 0 { None } else { Some(Span { at, len }) };
+    let fallback = SpineName::new(part);
+    let name = names::part_name(text, given, fallback.as_bytes());
     slices::put(out, name);
     name.len()
 }
