@@ -1,4 +1,3 @@
--- Laws of the reader's answer and of the texts lent out.
+-- Laws of the reader's answer.
 pub mod AnswerLaws
-pub mod GapLaws
 pub mod LineLaws
