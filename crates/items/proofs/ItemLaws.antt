@@ -12,11 +12,6 @@ use Rattle.std.specs.Prelude.{Option}
 use Rattle.items.specs.Items.{is_letter, item_of}
 use Rattle.items.specs.declared.Item.TheVariants.{Digits, Letters, Blank, Mark}
 
-pub item_none : (s : List ℕ) → length s ≡ 0 → Blank ≡ item_of s
-unfolding item_of
-item_none [] h = refl
-item_none (x ∷ xs) h = cc
-
 pub item_digits : (s : List ℕ) {d : Bool} {v : Option Value} → (length s ≡ 0 → ⊥) → d ≡ within 48 57 (get_or s 0 0) → d ≡ true → v ≡ duration_of s
     → Digits v ≡ item_of s
 unfolding item_of
@@ -40,8 +35,3 @@ pub item_mark : (s : List ℕ) {d l : Bool} → (length s ≡ 0 → ⊥) → d �
 unfolding item_of
 item_mark [] h p p' q q' e = absurd (h refl)
 item_mark (x ∷ xs) h p p' q q' e = rw (sym p ∙ p', sym q ∙ q', ne_eqb _ _ e)
-
-pub item_space : (s : List ℕ) → get_or s 0 0 ≡ 32 → Blank ≡ item_of s
-unfolding item_of is_letter within
-item_space [] e = refl
-item_space (x ∷ xs) e = rw e

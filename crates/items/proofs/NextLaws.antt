@@ -8,7 +8,7 @@ use mathlib.Core.Bool.{Bool, true, false, and-false}
 use lib.Dec.{leb, eqb}
 use lib.ListN.{length, take, drop, get_or, length-drop}
 use lib.Seq.{drop-cons, get_or-drop, get_or-take, length-take-le}
-use borrow.Author.Tests.{lt-leb, eq-eqb, ne_eqb}
+use borrow.Author.Tests.{lt-leb, eq-eqb, ne_eqb, eqb-true, eqb-false}
 use Rattle.pitch.specs.Pitch.{within}
 use Rattle.pitch.proofs.Letters.{within_low}
 use Rattle.duration.specs.Duration.{duration_of}
@@ -17,7 +17,7 @@ use Rattle.std.specs.Prelude.{Option}
 use Rattle.items.specs.Items.{is_digit, is_letter, joins, more, first, next_item}
 use Rattle.items.specs.declared.Item.TheVariants.{Digits, Letters, Blank, Mark}
 use Rattle.items.proofs.ItemLaws.{item_digits, item_letters, item_blank, item_mark}
-use Rattle.items.proofs.RunLaws.{At, next_at, next_is, Run, run_start, run_turn, run_done}
+use Rattle.items.proofs.RunLaws.{At, next_at, next_is, run_to}
 
 -- ---- which bytes stand in one run
 above : (b low high : ℕ) → high < b → within low high b ≡ false
@@ -44,50 +44,32 @@ mark_joins : (a b : ℕ) → is_digit a ≡ false → is_letter a ≡ false → 
 unfolding joins
 mark_joins a b d l = rw (d, l)
 
--- ---- the loop of `digits_end`: the byte before e is a digit of the run
-pub record Digital (s : List ℕ) (from e : ℕ) : Type 0 where
-  pub run : Run s from e
-  pub digit : is_digit (get_or s (e - 1) 0) ≡ true
+-- ---- the end of a run of digits, and of one letter
+module _ (s : List ℕ) (from e : ℕ) (low : from + 1 ≤ e) (high : e ≤ length s) where
+  -- what holds of the first byte and of each behind it holds of the byte before each
+  all_of : (f : ℕ → Bool) → f (get_or s from 0) ≡ true → ((j : ℕ) → from + 1 ≤ j → j < e → f (get_or s j 0) ≡ true) → (k : ℕ) → from ≤ k → k < e → f (get_or s k 0) ≡ true
+  all_of f first each k l h = go (eqb k from) refl
+    where
+      go : (t : Bool) → eqb k from ≡ t → f (get_or s k 0) ≡ true
+      go true q = rw (eqb-true k from q) first
+      go false q = let ne = eqb-false k from q in each k (omega arith) h
 
-pub digits_start : {s : List ℕ} {from : ℕ} → from < length s → is_digit (get_or s from 0) ≡ true → Digital s from (from + 1)
-digits_start {s} {from} h d =
-    let b : from + 1 - 1 ≡ from = omega arith in
-    record { run = run_start h; digit = rw b d }
+  pub digits_run : is_digit (get_or s from 0) ≡ true → ((j : ℕ) → from + 1 ≤ j → j < e → is_digit (get_or s j 0) ≡ true)
+      → (e < length s → is_digit (get_or s e 0) ≡ false) → e ≡ from + first (drop from s)
+  digits_run first each stop =
+      let all = all_of is_digit first each in
+      run_to s from e (omega arith) high
+      (λ j l h. digit_joins _ (get_or s j 0) (all (j - 1) (omega arith) (omega arith)) ∙ each j (omega arith) h)
+      (λ h. digit_joins _ (get_or s e 0) (all (e - 1) (omega arith) (omega arith)) ∙ stop h)
 
-module _ {s : List ℕ} {from e : ℕ} (inv : Digital s from e) where
-  digit_next : {t : Bool} → t ≡ is_digit (get_or s e 0) → t ≡ joins (get_or s (e - 1) 0) (get_or s e 0)
-  digit_next p = p ∙ sym (digit_joins _ _ inv.digit)
-
-  pub digits_turn : {t : Bool} → e < length s → t ≡ is_digit (get_or s e 0) → t ≡ true → Digital s from (e + 1)
-  digits_turn h p y =
-      let b : e + 1 - 1 ≡ e = omega arith in
-      record { run = run_turn inv.run h (digit_next p) y; digit = rw b (sym p ∙ y) }
-
-  pub digits_done : {t : Bool} → e < length s → t ≡ is_digit (get_or s e 0) → t ≡ false → e ≡ from + first (drop from s)
-  digits_done h p y = run_done inv.run h (digit_next p) y
-
--- ---- the loop of `letter_end`: the byte before e is the letter of the run
-pub record Lettered (s : List ℕ) (from letter e : ℕ) : Type 0 where
-  pub run : Run s from e
-  pub last : get_or s (e - 1) 0 ≡ letter
-  pub is : is_letter letter ≡ true
-
-pub letter_start : {s : List ℕ} {from : ℕ} → from < length s → is_letter (get_or s from 0) ≡ true → Lettered s from (get_or s from 0) (from + 1)
-letter_start {s} {from} h l =
-    let b : from + 1 - 1 ≡ from = omega arith in
-    record { run = run_start h; last = rw b; is = l }
-
-module _ {s : List ℕ} {from letter e : ℕ} (inv : Lettered s from letter e) where
-  letter_next : eqb (get_or s e 0) letter ≡ joins (get_or s (e - 1) 0) (get_or s e 0)
-  letter_next = sym (rw inv.last (letter_joins letter (get_or s e 0) inv.is))
-
-  pub letter_turn : e < length s → get_or s e 0 ≡ letter → Lettered s from letter (e + 1)
-  letter_turn h y =
-      let b : e + 1 - 1 ≡ e = omega arith in
-      record { run = run_turn inv.run h letter_next (eq-eqb _ _ y); last = rw b y; is = inv.is }
-
-  pub letter_done : e < length s → (get_or s e 0 ≡ letter → ⊥) → e ≡ from + first (drop from s)
-  letter_done h y = run_done inv.run h letter_next (ne_eqb _ _ y)
+  pub letter_run : (c : ℕ) → c ≡ get_or s from 0 → is_letter (get_or s from 0) ≡ true → ((j : ℕ) → from + 1 ≤ j → j < e → eqb (get_or s j 0) c ≡ true)
+      → (e < length s → eqb (get_or s e 0) c ≡ false) → e ≡ from + first (drop from s)
+  letter_run c q l each stop =
+      let all = all_of (λ b. eqb b c) (rw q (eq-eqb (get_or s from 0) (get_or s from 0) refl)) each in
+      let is : is_letter c ≡ true = rw q l in
+      run_to s from e (omega arith) high
+      (λ j l h. rw (eqb-true _ _ (all (j - 1) (omega arith) (omega arith))) (letter_joins c (get_or s j 0) is ∙ each j (omega arith) h))
+      (λ h. rw (eqb-true _ _ (all (e - 1) (omega arith) (omega arith))) (letter_joins c (get_or s e 0) is ∙ stop h))
 
 -- ---- the item, by the byte at its start
 module _ (s : List ℕ) (i : ℕ) (h : i < length s) where

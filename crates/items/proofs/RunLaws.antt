@@ -1,11 +1,13 @@
 -- The first run of a token, and the loop that finds where a run ends.
 use mathlib.Core.Path.{◌≡◌, refl, sym, ap, ◌∙◌}
 use Prim.Native.Nat.{ℕ, zero, suc, ◌+◌, ◌-◌, ◌≤◌, ◌<◌}
-use native.Mathlib.Nat.{not-suc-le-zero}
+use native.Mathlib.Nat.{not-suc-le-zero, add-zero}
 use native.Mathlib.Numerals.{add-one}
 use native.Mathlib.Omega.{arith}
 use mathlib.Core.List.{List, [], ◌∷◌}
 use mathlib.Core.Bool.{Bool, true, false, cond}
+use lib.Dec.{ltb}
+use borrow.Author.Tests.{ltb-true, ltb-false}
 use lib.ListN.{length, take, drop, get_or, length-drop, drop_of_length-le}
 use lib.Seq.{drop-cons, drop-drop}
 use Rattle.items.specs.Items.{joins, into, runs, item_of, items_of, items, more, first, next_item}
@@ -108,16 +110,26 @@ module _ {s : List ℕ} {from e : ℕ} (inv : Run s from e) where
       let m : more (get_or s (e - 1) 0) (drop e s) ≡ 0 = ap (more (get_or s (e - 1) 0)) (drop_of_length-le s h) in
       omega arith
 
--- ---- what `next_item` answers
-pub end_high : (s : List ℕ) (from e : ℕ) → from ≤ length s → e ≡ from + first (drop from s) → e ≤ length s
-unfolding first
-end_high s from e h q = go (drop from s) (length-drop from s) q
+-- the whole run: each byte joins the one before it, and the byte behind it doesn't
+pub run_to : (s : List ℕ) (from e : ℕ) → from < e → e ≤ length s → ((j : ℕ) → from < j → j < e → joins (get_or s (j - 1) 0) (get_or s j 0) ≡ true)
+    → (e < length s → joins (get_or s (e - 1) 0) (get_or s e 0) ≡ false) → e ≡ from + first (drop from s)
+run_to s from e low high each stop = past (ltb e (length s)) refl
   where
-    go : (l : List ℕ) → length l ≡ length s - from → e ≡ from + first l → e ≤ length s
-    go [] n p = omega arith
-    go (x ∷ xs) n p = omega (arith, more_low x xs)
+    go : (n : ℕ) → from + 1 + n ≤ e → Run s from (from + 1 + n)
+    go zero h = rw (add-zero (from + 1)) (run_start (omega arith))
+    go (suc n) h =
+        let k : from + 1 + suc n ≡ from + 1 + n + 1 = omega arith in
+        rw k (run_turn (go n (omega arith)) (omega arith) refl (each (from + 1 + n) (omega arith) (omega arith)))
 
-pub next_none : (s : List ℕ) (from : ℕ) → length s < from → record { item = Blank; end = from } ≡ next_item s from
+    all : Run s from e
+    all = let k : from + 1 + (e - (from + 1)) ≡ e = omega arith in rw k at (go (e - (from + 1)) (omega arith))
+
+    past : (t : Bool) → ltb e (length s) ≡ t → e ≡ from + first (drop from s)
+    past true q = let h : e < length s = ltb-true e (length s) q in run_done all h refl (stop h)
+    past false q = run_past all (ltb-false e (length s) q)
+
+-- ---- what `next_item` answers
+pub next_none : (s : List ℕ) (from : ℕ) → length s ≤ from → record { item = Blank; end = from } ≡ next_item s from
 unfolding next_item first item_of
 next_none s from h =
     let n : drop from s ≡ [] = drop_of_length-le s {i = from} (omega arith) in

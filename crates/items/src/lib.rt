@@ -1,8 +1,8 @@
 #![tactic(auto)]
 
 // A token as items: runs of digits, runs of one letter, blanks, and single bytes.
-ghost use Rattle.std.specs.Prelude.{◌≡◌, true, ◌+◌, ◌<◌, length, get_or, drop};
-ghost use Rattle.items.specs.Items.{is_digit, is_letter, joins, item_of, first, next_item};
+ghost use Rattle.std.specs.Prelude.{◌≡◌, ℕ, true, false, ◌+◌, ◌<◌, ◌≤◌, length, get_or, drop};
+ghost use Rattle.items.specs.Items.{is_digit, is_letter, first, next_item};
 
 use duration::Value;
 
@@ -37,34 +37,23 @@ pub fn is_letter(b: u8) -> bool
     matches!(b, b'a'..=b'g' | b'A'..=b'G')
 }
 
-// Whether a and the byte b right behind it stand in one run.
-#[tactic(auto, unfolding(crate::specs::Items::joins))]
-fn joins(a: u8, b: u8) -> bool
-    ensures { result ≡ joins a b }
+// The end of the bytes that a test takes, from an index on.
+pub fn end_of<F: Fn(u8) -> bool>(token: &[u8], from: usize, takes: F) -> usize
+    requires callable { F.IsAlwaysCallable takes }
+    requires inside { from ≤ length token.now }
+    ensures on { from ≤ result }
+    ensures high { result ≤ length token.now }
+    ensures taken { (j : ℕ) → from ≤ j → j < result → F.post takes (get_or token.now j 0) true }
+    ensures stops { result < length token.now → F.post takes (get_or token.now result 0) false }
 {
-    if is_digit(a) {
-        is_digit(b)
-    } else {
-        is_letter(a) && b == a
-    }
-}
-
-// The end of the run that begins at an index; the index itself past the end.
-fn run_end(token: &[u8], from: usize) -> usize
-    ensures { result ≡ from + first (drop from token.now) }
-{
-    if token.len() <= from {
-        return from;
-    }
-    let mut e = from + 1;
-    while e < token.len() {
-        if joins(token[e - 1], token[e]) {
-            e += 1;
-        } else {
-            return e;
+    let mut end = from;
+    for b in &token[from..] {
+        if !takes(*b) {
+            return end;
         }
+        end += 1;
     }
-    e
+    end
 }
 
 // The end of the digits that begin at an index.
@@ -72,15 +61,7 @@ pub fn digits_end(token: &[u8], from: usize) -> usize
     requires { (from < length token.now) × (is_digit (get_or token.now from 0) ≡ true) }
     ensures { result ≡ from + first (drop from token.now) }
 {
-    let mut e = from + 1;
-    while e < token.len() {
-        if is_digit(token[e]) {
-            e += 1;
-        } else {
-            return e;
-        }
-    }
-    e
+    end_of(token, from + 1, |b| is_digit(b))
 }
 
 // The end of the run of a letter that begins at an index.
@@ -89,45 +70,45 @@ pub fn letter_end(token: &[u8], from: usize) -> usize
     ensures { result ≡ from + first (drop from token.now) }
 {
     let letter = token[from];
-    let mut e = from + 1;
-    while e < token.len() {
-        if token[e] == letter {
-            e += 1;
-        } else {
-            return e;
-        }
-    }
-    e
-}
-
-// What a run is.
-fn item_of(run: &[u8]) -> Item
-    ensures { result ≡ item_of run.now }
-{
-    match run {
-        [] | [b' ', ..] => Item::Blank,
-        [b, ..] if is_digit(*b) => Item::Digits(duration::kern_duration(run)),
-        [letter, ..] if is_letter(*letter) => Item::Letters {
-            letter: *letter,
-            count: run.len(),
-        },
-        [b, ..] => Item::Mark(*b),
-    }
+    end_of(token, from + 1, |b| b == letter)
 }
 
 // The item that begins at an index.
 pub fn next_item(token: &[u8], from: usize) -> Next
     ensures { result ≡ next_item token.now from }
 {
-    if token.len() < from {
+    if token.len() <= from {
         return Next {
             item: Item::Blank,
             end: from,
         };
     }
-    let end = run_end(token, from);
+    let b = token[from];
+    if is_digit(b) {
+        let end = digits_end(token, from);
+        let value = duration::kern_duration(&token[from..end]);
+        return Next {
+            item: Item::Digits(value),
+            end,
+        };
+    }
+    if is_letter(b) {
+        let end = letter_end(token, from);
+        let count = end - from;
+        return Next {
+            item: Item::Letters { letter: b, count },
+            end,
+        };
+    }
+    let end = from + 1;
+    if b == b' ' {
+        return Next {
+            item: Item::Blank,
+            end,
+        };
+    }
     Next {
-        item: item_of(&token[from..end]),
+        item: Item::Mark(b),
         end,
     }
 }

@@ -23,22 +23,15 @@ use Rattle.scan.specs.declared.Marks.{Marks}
 use Rattle.scan.proofs.SoundLaws.{sounds}
 use Rattle.scan.proofs.ScanLaws.{Scanning, scan_turn}
 
--- ---- the loop that finds their end
-pub unknowns_start : {token : List ℕ} {from : ℕ} → from < length token → is_unknown (get_or token from 0) ≡ true → Unknowns token from (from + 1)
-unknowns_start {token} {from} h o =
-    record {
-      on = omega arith;
-      high = omega arith;
-      unknown = λ j l u. let e : j ≡ from = omega arith in rw e o;
-    }
-
-module _ {token : List ℕ} {from e : ℕ} {t : Bool} (inv : Unknowns token from e) (h : e < length token) (p : t ≡ is_unknown (get_or token e 0)) (y : t ≡ true) where
-  at_unknown : (j : ℕ) → from ≤ j → (t : Bool) → eqb j e ≡ t → j < e + 1 → is_unknown (get_or token j 0) ≡ true
-  at_unknown j l true q u = rw (eqb-true j e q) (sym p ∙ y)
-  at_unknown j l false q u = let s = eqb-false j e q in inv.unknown j l (omega arith)
-
-  pub unknowns_turn : Unknowns token from (e + 1)
-  unknowns_turn = record { on = omega (arith, inv.on); high = omega arith; unknown = λ j l u. at_unknown j l (eqb j e) refl u }
+-- ---- their end
+pub unknowns_to : {token : List ℕ} {from end : ℕ} → is_unknown (get_or token from 0) ≡ true → from + 1 ≤ end → end ≤ length token
+    → ((j : ℕ) → from + 1 ≤ j → j < end → is_unknown (get_or token j 0) ≡ true) → Unknowns token from end
+unknowns_to {token} {from} {end} first low high each =
+    record { on = omega arith; high = high; unknown = λ j l u. go j l u (eqb j from) refl }
+  where
+    go : (j : ℕ) → from ≤ j → j < end → (t : Bool) → eqb j from ≡ t → is_unknown (get_or token j 0) ≡ true
+    go j l u true q = rw (eqb-true j from q) first
+    go j l u false q = let ne = eqb-false j from q in each j (omega arith) u
 
 -- ---- what such a mark is not
 none : (d l x s k : Bool) → not (d || l || x || s || k) ≡ true → (d ≡ false) × (l ≡ false) × (s ≡ false) × (k ≡ false)

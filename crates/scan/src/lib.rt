@@ -178,15 +178,7 @@ pub fn unknown_end(token: &[u8], from: usize) -> usize
     requires { (from < length token.now) × (is_unknown (get_or token.now from 0) ≡ true) }
     ensures { Unknowns token.now from result }
 {
-    let mut e = from + 1;
-    while e < token.len() {
-        if is_unknown(token[e]) {
-            e += 1;
-        } else {
-            return e;
-        }
-    }
-    e
+    items::end_of(token, from + 1, |b| is_unknown(b))
 }
 
 // Whether a mark is imported.
@@ -194,11 +186,7 @@ pub fn unknown_end(token: &[u8], from: usize) -> usize
 pub fn passes(sounding: bool, b: u8) -> bool
     ensures { result ≡ passes sounding b }
 {
-    if is_sign(b) {
-        sounding
-    } else {
-        known(b)
-    }
+    if is_sign(b) { sounding } else { known(b) }
 }
 
 // Some signifiers more.
