@@ -10,6 +10,7 @@ use lib.Dec.{ltb}
 use lib.ListN.{length, take, drop, get_or, length-drop, drop_of_length-le}
 use lib.Seq.{drop-drop, take_all}
 use borrow.Author.Tests.{ltb-true, ltb-false}
+use Rattle.std.proofs.lemmas.List.{get_or-take, get_or-drop}
 use Rattle.utf8.specs.Utf8.{Range, tails, table, begins, char_length, utf8_length, Passed}
 use Rattle.utf8.proofs.TableLaws.{char_begins}
 use Rattle.utf8.proofs.RowLaws.{row}
@@ -36,21 +37,14 @@ pub run_one : (s : List ℕ) (i : ℕ) → get_or s i 0 < 128 → Run s i 1
 run_one s i h zero l = rw add-zero h
 run_one s i h (suc k) l = absurd (not-suc-le-zero (le_of_suc-le-suc l))
 
-pub run_four : (s : List ℕ) (i : ℕ) → bit_or (bit_or (bit_or (get_or s i 0) (get_or s (i + 1) 0)) (get_or s (i + 2) 0)) (get_or s (i + 3) 0) < 128 → Run s i 4
-run_four s i h =
-    let o : _ = or_small (bit_or (bit_or (get_or s i 0) (get_or s (i + 1) 0)) (get_or s (i + 2) 0)) (get_or s (i + 3) 0) h in
-    let p : _ = or_small (bit_or (get_or s i 0) (get_or s (i + 1) 0)) (get_or s (i + 2) 0) o.0 in
-    let q : _ = or_small (get_or s i 0) (get_or s (i + 1) 0) p.0 in
-    run_join s i 3 1 (run_join s i 2 1 (run_join s i 1 1 (run_one s i q.0) (run_one s (i + 1) q.1)) (run_one s (i + 2) p.1)) (run_one s (i + 3) o.1)
-
--- four times m bytes
-pub run_parts : (s : List ℕ) (i m : ℕ) {a b c d : ℕ} → (a < 128 → Run s i m) → (b < 128 → Run s (i + m) m) → (c < 128 → Run s (i + (m + m)) m)
-    → (d < 128 → Run s (i + (m + m + m)) m) → bit_or (bit_or (bit_or a b) c) d < 128 → Run s i (m + m + m + m)
-run_parts s i m {a} {b} {c} {d} fa fb fc fd h =
-    let o : _ = or_small (bit_or (bit_or a b) c) d h in
-    let p : _ = or_small (bit_or a b) c o.0 in
-    let q : _ = or_small a b p.0 in
-    run_join s i (m + m + m) m (run_join s i (m + m) m (run_join s i m m (fa q.0) (fb q.1)) (fc p.1)) (fd o.1)
+-- the loop of `joined`: a byte more
+pub run_turn : (s : List ℕ) (i n m bits : ℕ) → i + m ≤ length s → n < m → (bits < 128 → Run s i n)
+    → bit_or bits (get_or (take (i + m - i) (drop i s)) n 0) < 128 → Run s i (n + 1)
+run_turn s i n m bits h low inv e =
+    let here : get_or (take (i + m - i) (drop i s)) n 0 ≡ get_or s (i + n) 0 =
+    get_or-take (i + m - i) (drop i s) n 0 (omega arith) ∙ get_or-drop i s n 0 in
+    let o : (bits < 128) × (get_or (take (i + m - i) (drop i s)) n 0 < 128) = or_small bits _ e in
+    run_join s i n 1 (inv o.0) (run_one s (i + n) (rw here at o.1))
 
 -- the loop of `blocks_64`
 pub blocks_first : {s : List ℕ} {from : ℕ} → from ≤ length s → Passed s from from

@@ -1,5 +1,5 @@
 -- A row of the table, byte by byte, as the code goes through it.
-use mathlib.Core.Path.{◌≡◌, refl, ap, ◌∙◌}
+use mathlib.Core.Path.{◌≡◌, refl, sym, ap, ◌∙◌}
 use mathlib.Core.Bool.{Bool, true, false, cond, ◌&&◌, and-true}
 use mathlib.Core.List.{List, [], ◌∷◌, Memᴰ}
 use Prim.Native.Nat.{ℕ, zero, suc, ◌+◌, ◌-◌, ◌≤◌, ◌<◌}
@@ -10,6 +10,7 @@ use lib.ListN.{length, drop, get_or, drop_of_length-le}
 use lib.Seq.{drop-drop}
 use borrow.Author.Tests.{le-leb, leb-true, leb-false}
 use Rattle.slices.proofs.SplitLaws.{at_index}
+use Rattle.std.specs.List.{list_all, range_with_len}
 use Rattle.utf8.specs.Utf8.{Range, tails, table, begins, char_length}
 use Rattle.utf8.proofs.TableLaws.{char_lead, char_miss, Out, begins_out}
 
@@ -42,40 +43,11 @@ module _ (r : Range) (s : List ℕ) (i : ℕ) where
 abbrev tail : Range
 tail = (0x80, 0xBF)
 
--- a lead and two tails
-pub begins_three : (r : Range) (s : List ℕ) (i : ℕ)
-    → begins (r ∷ tails 2) (drop i s) ≡ (begins (r ∷ []) (drop i s) && (begins (tails 1) (drop (i + 1) s) && begins (tails 1) (drop (i + 2) s)))
-begins_three r s i =
-    let e : i + 1 + 1 ≡ i + 2 = omega arith in
-    begins_split r s i (tails 2) ∙ rw (begins_split tail s (i + 1) (tails 1), e)
-
--- ---- the loop of `rest`: the tails from i on decide
-
-pub record Rest (s : List ℕ) (n i : ℕ) : Type 0 where
-  pub low : 2 ≤ i
-  pub high : i ≤ n
-  pub same : begins (tails (n - 2)) (drop 2 s) ≡ begins (tails (n - i)) (drop i s)
-
-pub rest_first : {s : List ℕ} {n : ℕ} → 2 ≤ n → Rest s n 2
-rest_first h = record { low = omega arith; high = h; same = refl }
-
-module _ {s : List ℕ} {n i : ℕ} (inv : Rest s n i) where
-  one_more : i < n → begins (tails (n - 2)) (drop 2 s) ≡ (begins (tail ∷ []) (drop i s) && begins (tails (n - (i + 1))) (drop (i + 1) s))
-  one_more h =
-      let m : n - i ≡ suc (n - (i + 1)) = omega arith in
-      inv.same ∙ ap (λ (k : ℕ). begins (tails k) (drop i s)) m ∙ begins_split tail s i (tails (n - (i + 1)))
-
-  pub rest_turn : i < n → begins (tail ∷ []) (drop i s) ≡ true → Rest s n (i + 1)
-  rest_turn h e = record { low = omega (arith, inv.low); high = omega arith; same = one_more h ∙ rw e }
-
-  pub rest_not : i < n → begins (tail ∷ []) (drop i s) ≡ false → begins (tails (n - 2)) (drop 2 s) ≡ false
-  rest_not h e = one_more h ∙ rw e
-
-  pub rest_past : n ≤ i → begins (tails (n - 2)) (drop 2 s) ≡ true
-  unfolding begins
-  rest_past h =
-      let z : n - i ≡ 0 = omega arith in
-      inv.same ∙ ap (λ (k : ℕ). begins (tails k) (drop i s)) z
+-- ---- the tails from an index on
+pub all_tails : (s : List ℕ) (m i : ℕ) → list_all (λ k. begins (tail ∷ []) (drop k s)) (range_with_len i m) ≡ begins (tails m) (drop i s)
+unfolding begins
+all_tails s zero i = refl
+all_tails s (suc m) i = rw (all_tails s m (i + 1)) (sym (begins_split tail s i (tails m)))
 
 -- the byte behind the lead, and the tails
 module _ (r : Range) (s : List ℕ) (n : ℕ) where

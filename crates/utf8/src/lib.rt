@@ -1,21 +1,21 @@
 #![tactic(auto)]
 
 // UTF-8 by RFC 3629: the length of the well-formed part of a text, and the character at its front.
-ghost use Rattle.std.specs.Prelude.{◌≡◌, cond, ◌∷◌, ℕ, ◌+◌, ◌-◌, ◌*◌, ◌%◌, ◌≤◌, ◌<◌, length, drop, get_or};
+ghost use Rattle.std.specs.Prelude.{◌≡◌, true, cond, ◌∷◌, ℕ, ◌+◌, ◌-◌, ◌*◌, ◌%◌, ◌≤◌, ◌<◌, length, drop, get_or};
 ghost use Rattle.utf8.specs.Utf8.{tails, begins, char_length, utf8_length, Passed, code_point};
 
 // Whether the byte at i lies in lo..=hi.
 fn between(s: &[u8], i: usize, lo: u8, hi: u8) -> bool
     ensures { result ≡ begins ((lo, hi) ∷ tails 0) (drop i s.now) }
 {
-    if s.len() <= i {
-        return false;
-    }
-    let b = s[i];
-    if b < lo {
-        return false;
-    }
-    b <= hi
+    i < s.len() && lo <= s[i] && s[i] <= hi
+}
+
+// Whether the bytes from `from` up to n are tails.
+fn tailed(s: &[u8], from: usize, n: usize) -> bool
+    ensures { result ≡ begins (tails (n - from)) (drop from s.now) }
+{
+    (from..n).all(|i| between(s, i, 0x80, 0xBF))
 }
 
 // n where the byte at 1 lies in lo..=hi and those behind it up to n are tails, else 0.
@@ -23,56 +23,28 @@ fn rest(s: &[u8], lo: u8, hi: u8, n: usize) -> usize
     requires { 2 ≤ n }
     ensures { result ≡ cond (begins ((lo, hi) ∷ tails (n - 2)) (drop 1 s.now)) n 0 }
 {
-    if !between(s, 1, lo, hi) {
-        return 0;
+    if between(s, 1, lo, hi) && tailed(s, 2, n) {
+        n
+    } else {
+        0
     }
-    let mut i = 2;
-    while i < n {
-        if !between(s, i, 0x80, 0xBF) {
-            return 0;
-        }
-        i += 1;
-    }
-    n
 }
 
 // The length of the character at the front of s, 0 where none stands there.
 pub fn char_length(s: &[u8]) -> usize
     ensures { result ≡ char_length s.now }
 {
-    if s.len() == 0 {
-        return 0;
+    match s {
+        [0x00..=0x7F, ..] => 1,
+        [0xC2..=0xDF, ..] => rest(s, 0x80, 0xBF, 2),
+        [0xE0, ..] => rest(s, 0xA0, 0xBF, 3),
+        [0xED, ..] => rest(s, 0x80, 0x9F, 3),
+        [0xE1..=0xEF, ..] => rest(s, 0x80, 0xBF, 3),
+        [0xF0, ..] => rest(s, 0x90, 0xBF, 4),
+        [0xF1..=0xF3, ..] => rest(s, 0x80, 0xBF, 4),
+        [0xF4, ..] => rest(s, 0x80, 0x8F, 4),
+        _ => 0,
     }
-    let b = s[0];
-    if b < 0x80 {
-        return 1;
-    }
-    let no_lead = b < 0xC2;
-    if no_lead {
-        return 0;
-    }
-    if b < 0xE0 {
-        return rest(s, 0x80, 0xBF, 2);
-    }
-    if b == 0xE0 {
-        return rest(s, 0xA0, 0xBF, 3);
-    }
-    if b == 0xED {
-        return rest(s, 0x80, 0x9F, 3);
-    }
-    if b < 0xF0 {
-        return rest(s, 0x80, 0xBF, 3);
-    }
-    if b == 0xF0 {
-        return rest(s, 0x90, 0xBF, 4);
-    }
-    if b < 0xF4 {
-        return rest(s, 0x80, 0xBF, 4);
-    }
-    if b == 0xF4 {
-        return rest(s, 0x80, 0x8F, 4);
-    }
-    0
 }
 
 // The bits so far, and behind them the six of the tail at i.
@@ -104,28 +76,16 @@ pub fn code_point(s: &[u8]) -> u32
     behind(behind(behind(a % 8, s, 1), s, 2), s, 3)
 }
 
-// The 4 bytes from i on, joined bit by bit.
-fn joined(s: &[u8], i: usize) -> u8
-    requires { i + 4 ≤ length s.now }
-    ensures { result < 128 → (k : ℕ) → k < 4 → get_or s.now (i + k) 0 < 128 }
+// The N bytes from i on, joined bit by bit.
+fn joined<const N: usize>(s: &[u8], i: usize) -> u8
+    requires { i + N ≤ length s.now }
+    ensures { result < 128 → (k : ℕ) → k < N → get_or s.now (i + k) 0 < 128 }
 {
-    s[i] | s[i + 1] | s[i + 2] | s[i + 3]
-}
-
-// The 16 bytes from i on, joined bit by bit.
-fn joined_16(s: &[u8], i: usize) -> u8
-    requires { i + 16 ≤ length s.now }
-    ensures { result < 128 → (k : ℕ) → k < 16 → get_or s.now (i + k) 0 < 128 }
-{
-    joined(s, i) | joined(s, i + 4) | joined(s, i + 8) | joined(s, i + 12)
-}
-
-// The 64 bytes from i on, joined bit by bit.
-fn joined_64(s: &[u8], i: usize) -> u8
-    requires { i + 64 ≤ length s.now }
-    ensures { result < 128 → (k : ℕ) → k < 64 → get_or s.now (i + k) 0 < 128 }
-{
-    joined_16(s, i) | joined_16(s, i + 16) | joined_16(s, i + 32) | joined_16(s, i + 48)
+    let mut bits = 0;
+    for b in &s[i..i + N] {
+        bits |= *b;
+    }
+    bits
 }
 
 // Where the blocks of 64 bytes below 128 from `from` on end.
@@ -135,7 +95,7 @@ fn blocks_64(s: &[u8], from: usize) -> usize
 {
     let mut i = from;
     while 64 <= s.len() - i {
-        if 128 <= joined_64(s, i) {
+        if 128 <= joined::<64>(s, i) {
             return i;
         }
         i += 64;
@@ -143,51 +103,23 @@ fn blocks_64(s: &[u8], from: usize) -> usize
     i
 }
 
-// Whether a character of two bytes stands at i.
-fn two(s: &[u8], i: usize) -> bool
-    requires { i ≤ length s.now }
-    ensures { result ≡ begins ((0xC2, 0xDF) ∷ tails 1) (drop i s.now) }
+// Whether a character of N bytes, led by lo..=hi, stands at i.
+fn row<const N: usize>(s: &[u8], lo: u8, hi: u8, i: usize) -> bool
+    requires { (0 < N) × (N ≤ 4) × (i ≤ length s.now) }
+    ensures { result ≡ begins ((lo, hi) ∷ tails (N - 1)) (drop i s.now) }
 {
-    if !between(s, i, 0xC2, 0xDF) {
-        return false;
-    }
-    between(s, i + 1, 0x80, 0xBF)
+    between(s, i, lo, hi) && tailed(s, i + 1, i + N)
 }
 
-// Whether a character of three bytes, led by E1 to EC, stands at i.
-fn three(s: &[u8], i: usize) -> bool
-    requires { i ≤ length s.now }
-    ensures { result ≡ begins ((0xE1, 0xEC) ∷ tails 2) (drop i s.now) }
-{
-    if !between(s, i, 0xE1, 0xEC) {
-        return false;
-    }
-    if !between(s, i + 1, 0x80, 0xBF) {
-        return false;
-    }
-    between(s, i + 2, 0x80, 0xBF)
-}
-
-// Where the characters of two bytes from `from` on end.
-fn twos(s: &[u8], from: usize) -> usize
-    requires { from ≤ length s.now }
+// Where the characters of N bytes, led by lo..=hi, from `from` on end.
+fn rows<const N: usize>(s: &[u8], lo: u8, hi: u8, from: usize) -> usize
+    requires short { (0 < N) × (N ≤ 4) × (from ≤ length s.now) }
+    requires listed { (i : ℕ) → begins ((lo, hi) ∷ tails (N - 1)) (drop i s.now) ≡ true → Passed s.now i (i + N) }
     ensures { Passed s.now from result }
 {
     let mut i = from;
-    while two(s, i) {
-        i += 2;
-    }
-    i
-}
-
-// Where the characters of three bytes, led by E1 to EC, from `from` on end.
-fn threes(s: &[u8], from: usize) -> usize
-    requires { from ≤ length s.now }
-    ensures { Passed s.now from result }
-{
-    let mut i = from;
-    while three(s, i) {
-        i += 3;
+    while row::<N>(s, lo, hi, i) {
+        i += N;
     }
     i
 }
@@ -201,20 +133,22 @@ fn onward(s: &[u8], i: usize) -> usize
         return i + char_length(&s[i..]);
     }
     if s[i] < 128 {
-        if 128 <= joined(s, i) {
+        if 128 <= joined::<4>(s, i) {
             return i + 1;
         }
-        let beyond = 128 <= joined_16(s, i);
+        let beyond = 128 <= joined::<16>(s, i);
         if beyond {
             return i + 4;
         }
         return blocks_64(s, i + 16);
     }
-    if two(s, i) {
-        return twos(s, i + 2);
+    let twos = rows::<2>(s, 0xC2, 0xDF, i);
+    if i < twos {
+        return twos;
     }
-    if three(s, i) {
-        return threes(s, i + 3);
+    let threes = rows::<3>(s, 0xE1, 0xEC, i);
+    if i < threes {
+        return threes;
     }
     i + char_length(&s[i..])
 }

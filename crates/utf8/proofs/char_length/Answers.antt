@@ -1,4 +1,4 @@
--- `char_length`: each branch is the row of the table that the first byte leads, or none.
+-- `char_length`: each arm is the row of the table that the first byte leads, or none.
 use mathlib.Core.Path.{sym, ◌∙◌}
 use native.Mathlib.Omega.{arith}
 use Rattle.utf8.specs.Utf8.{table, begins}
@@ -6,44 +6,44 @@ use Rattle.utf8.proofs.LengthLaws.{char_empty}
 use Rattle.utf8.proofs.RowLaws.{row, leads, leads_none, leads_three}
 use Rattle.utf8.proofs.char_length.Goals as goal
 
-pub returns-then-s-eq0 : goal.returns-then-s-eq0
-returns-then-s-eq0 c = sym (char_empty _ c.if-s-eq0.true)
-
-pub returns-then-b-lt128 : goal.returns-then-b-lt128
+pub returns-in-0-to-127 : goal.returns-in-0-to-127
 unfolding table begins
-returns-then-b-lt128 c = sym (leads _ c.if-s-eq0.false (row 0 (omega arith)) (omega arith) (omega arith))
+returns-in-0-to-127 c = sym (leads _ (λ e. omega arith) (row 0 (omega arith)) (omega arith) (omega arith))
 
-pub returns-then-no_lead : goal.returns-then-no_lead
+pub returns-in-194-to-223 : goal.returns-in-194-to-223
 unfolding table
-returns-then-no_lead c = sym (leads_none _ c.if-s-eq0.false (omega arith))
+returns-in-194-to-223 c = c.rest-in-194-to-223.ensures ∙ sym (leads _ (λ e. omega arith) (row 1 (omega arith)) (omega arith) (omega arith))
 
-pub returns-then-b-lt224 : goal.returns-then-b-lt224
+pub returns-in-224 : goal.returns-in-224
 unfolding table
-returns-then-b-lt224 c = c.rest.ensures ∙ sym (leads _ c.if-s-eq0.false (row 1 (omega arith)) (omega arith) (omega arith))
+returns-in-224 c = c.rest.ensures ∙ sym (leads _ (λ e. omega arith) (row 2 (omega arith)) (omega arith) (omega arith))
 
-pub returns-then-b : goal.returns-then-b
+pub returns-in-237 : goal.returns-in-237
 unfolding table
-returns-then-b c = c.rest-then-b.ensures ∙ sym (leads _ c.if-s-eq0.false (row 2 (omega arith)) (omega arith) (omega arith))
+returns-in-237 c = c.rest-in-237.ensures ∙ sym (leads _ (λ e. omega arith) (row 4 (omega arith)) (omega arith) (omega arith))
 
-pub returns-then-b-2 : goal.returns-then-b-2
+pub returns-in-240 : goal.returns-in-240
 unfolding table
-returns-then-b-2 c = c.rest-then-b-2.ensures ∙ sym (leads _ c.if-s-eq0.false (row 4 (omega arith)) (omega arith) (omega arith))
+returns-in-240 c = c.rest-in-240.ensures ∙ sym (leads _ (λ e. omega arith) (row 6 (omega arith)) (omega arith) (omega arith))
 
-pub returns-then-b-lt240 : goal.returns-then-b-lt240
-returns-then-b-lt240 c = c.rest-then-b-lt240.ensures ∙ sym (leads_three _ c.if-s-eq0.false (omega arith) (omega arith) c.if-b-2.false)
-
-pub returns-then-b-3 : goal.returns-then-b-3
+pub returns-in-241-to-243 : goal.returns-in-241-to-243
 unfolding table
-returns-then-b-3 c = c.rest-then-b-3.ensures ∙ sym (leads _ c.if-s-eq0.false (row 6 (omega arith)) (omega arith) (omega arith))
+returns-in-241-to-243 c = c.rest-in-241-to-243.ensures ∙ sym (leads _ (λ e. omega arith) (row 7 (omega arith)) (omega arith) (omega arith))
 
-pub returns-then-b-lt244 : goal.returns-then-b-lt244
+pub returns-in-244 : goal.returns-in-244
 unfolding table
-returns-then-b-lt244 c = c.rest-then-b-lt244.ensures ∙ sym (leads _ c.if-s-eq0.false (row 7 (omega arith)) (omega arith) (omega arith))
+returns-in-244 c = c.rest-in-244.ensures ∙ sym (leads _ (λ e. omega arith) (row 8 (omega arith)) (omega arith) (omega arith))
 
-pub returns-then-b-4 : goal.returns-then-b-4
-unfolding table
-returns-then-b-4 c = c.rest-then-b-4.ensures ∙ sym (leads _ c.if-s-eq0.false (row 8 (omega arith)) (omega arith) (omega arith))
+pub returns-in-225-to-239 : goal.returns-in-225-to-239
+returns-in-225-to-239 c = c.rest-in-225-to-239.ensures ∙ sym (leads_three _ (λ e. omega arith) (omega arith) (omega arith) (λ e. omega arith))
 
-pub returns : goal.returns
+pub returns-in_default : goal.returns-in_default
+returns-in_default c = sym (char_empty _ (omega arith))
+
+pub returns-in_default-2 : goal.returns-in_default-2
 unfolding table
-returns c = sym (leads_none _ c.if-s-eq0.false (omega arith))
+returns-in_default-2 c = sym (leads_none _ (λ e. omega arith) (omega arith))
+
+pub returns-in_default-3 : goal.returns-in_default-3
+unfolding table
+returns-in_default-3 c = sym (leads_none _ (λ e. omega arith) (omega arith))

@@ -1,5 +1,4 @@
 -- `onward`: each branch passes what it has seen to be well formed, and more than nothing where a character stands at i.
-use mathlib.Core.Path.{sym, ◌∙◌}
 use native.Mathlib.Omega.{arith}
 use Rattle.utf8.proofs.BlockLaws.{run_one, blocks_first, blocks_turn, blocks_on, two_on, three_on, onward_run, onward_char}
 use Rattle.utf8.proofs.onward.Goals as goal
@@ -17,13 +16,19 @@ pub returns-then-beyond : goal.returns-then-beyond
 returns-then-beyond c = onward_run (blocks_turn (blocks_first (omega arith)) 4 (omega arith) (c.joined.ensures c.if-joined-ge128.false)) (omega arith)
 
 pub returns-then-s-i-lt128 : goal.returns-then-s-i-lt128
-returns-then-s-i-lt128 c = onward_run (blocks_on (blocks_turn (blocks_first (omega arith)) 16 (omega arith) (c.joined_16-beyond.ensures c.if-beyond.false)) c.blocks_64.ensures) (omega (arith, c.blocks_64.ensures.low))
+returns-then-s-i-lt128 c = onward_run (blocks_on (blocks_turn (blocks_first (omega arith)) 16 (omega arith) (c.joined-beyond.ensures c.if-beyond.false)) c.blocks_64.ensures) (omega (arith, c.blocks_64.ensures.low))
 
-pub returns-then-two : goal.returns-then-two
-returns-then-two c = onward_run (blocks_on (two_on _ _ (sym c.two.ensures ∙ c.if-two.true)) c.twos.ensures) (omega (arith, c.twos.ensures.low))
+pub rows-twos-requires-clause-listed : goal.rows-twos-requires-clause-listed
+rows-twos-requires-clause-listed c = λ i. two_on c.args.s.now i
 
-pub returns-then-three : goal.returns-then-three
-returns-then-three c = onward_run (blocks_on (three_on _ _ (sym c.three.ensures ∙ c.if-three.true)) c.threes.ensures) (omega (arith, c.threes.ensures.low))
+pub returns-then-i-twos : goal.returns-then-i-twos
+returns-then-i-twos c = onward_run c.rows-twos.ensures c.if-i-twos.true
+
+pub rows-threes-requires-clause-listed : goal.rows-threes-requires-clause-listed
+rows-threes-requires-clause-listed c = λ i. three_on c.args.s.now i
+
+pub returns-then-i-threes : goal.returns-then-i-threes
+returns-then-i-threes c = onward_run c.rows-threes.ensures c.if-i-threes.true
 
 pub overflow_add-result-2 : goal.overflow_add-result-2
 overflow_add-result-2 c = omega (arith, (onward_char c.args.s.now c.args.i (omega arith) c.char_length-2.ensures).0.high)
