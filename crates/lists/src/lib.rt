@@ -36,6 +36,7 @@ pub fn fill_articulations(out: &mut [u8], token: &[u8])
 }
 
 // The articulations of a token, where they fit.
+// Stays: it and `put_signifiers` differ in the scan's count and the function called; one over both would take these two, and say no more.
 pub fn put_articulations(out: &mut [u8], token: &[u8])
     ensures { out.new ≡ stored out.old (articulation_bytes token.now) }
 {
@@ -150,6 +151,8 @@ fn sign(s: Option<Tone>, b: u8) -> Option<Tone>
 }
 
 // The pitches of a token that is no rest, for which there is room.
+// Stays: its walk and that of `fill_signifiers` share the tests of an item's kind alone; one walk over both would take a trait with a
+// method and a contract for each of five kinds, where each walk here has a branch.
 pub fn fill_pitches(out: &mut [u8], token: &[u8])
     requires { (rest_of (items token.now) ≡ false) × (length (pitch_bytes token.now) ≤ length out.old) }
     ensures { out.new ≡ stored out.old (pitch_bytes token.now) }

@@ -1,5 +1,5 @@
 -- What is stored, and what the items left give, are all; a pitch is given where its sub-token ends.
-use mathlib.Core.Path.{refl, sym, ap, ◌∙◌}
+use mathlib.Core.Path.{refl, ap, ◌∙◌}
 use mathlib.Core.List.{[]}
 use native.Mathlib.Omega.{arith}
 use Rattle.items.specs.declared.Item.TheVariants.{Digits, Letters, Blank, Mark}
@@ -8,29 +8,17 @@ use Rattle.items.proofs.NextLaws.{end_on, next_digits, next_letters, next_blank,
 use Rattle.token.specs.Token.{begun}
 use Rattle.std.specs.Prelude.{None}
 use Rattle.lists.specs.Lists.{sound_bytes}
-use Rattle.lists.proofs.FillLaws.{fill_as, fill_length, fill_room, fill_turn, fill_past, write_first, write_room, write_on, write_turn, write_left}
+use Rattle.lists.proofs.FillLaws.{fill_as, fill_room, fill_turn, fill_past, write_room, write_on, write_turn, write_left}
 use Rattle.lists.proofs.ItemLaws.{heard_none}
-use Rattle.lists.proofs.CountLaws.{note_bytes_lem, heard_bytes, heard_next}
+use Rattle.lists.proofs.CountLaws.{heard_bytes, heard_next}
 use Rattle.lists.proofs.UnknownLaws.{unknowns_past}
 use Rattle.lists.proofs.fill_pitches.Goals as goal
-
-pub loop-i-init : goal.loop-i-init
-loop-i-init c = write_first (heard_bytes None) (note_bytes_lem _ c.requires.0) c.requires.1
-
-pub digits_end-i-requires : goal.digits_end-i-requires
-digits_end-i-requires c = (c.loop-i-test.true, sym c.is_digit.ensures ∙ c.if-is_digit.true)
 
 pub loop-i-smaller-then-is_digit : goal.loop-i-smaller-then-is_digit
 loop-i-smaller-then-is_digit c = omega (arith, end_on _ _ c.loop-i-test.true c.digits_end-i.ensures)
 
 pub loop-i-preserved-then-is_digit : goal.loop-i-preserved-then-is_digit
 loop-i-preserved-then-is_digit c = write_on c.loop-i.invariant _ (next_at c.loop-i-test.true (next_digits _ _ c.loop-i-test.true c.digits_end-i.ensures c.is_digit.ensures c.if-is_digit.true refl)) (heard_next c.loop-i.sound (Digits _) refl)
-
-pub letter_end-end-requires : goal.letter_end-end-requires
-letter_end-end-requires c = (c.loop-i-test.true, sym c.is_letter.ensures ∙ c.if-is_letter.true)
-
-pub overflow_sub-end : goal.overflow_sub-end
-overflow_sub-end c = omega (arith, c.letter_end-end.ensures)
 
 pub loop-i-smaller-then-is_letter : goal.loop-i-smaller-then-is_letter
 loop-i-smaller-then-is_letter c = omega (arith, end_on _ _ c.loop-i-test.true c.letter_end-end.ensures)
@@ -41,38 +29,17 @@ loop-i-preserved-then-is_letter c = write_on c.loop-i.invariant _ (next_at c.loo
 pub put_sound-k-requires : goal.put_sound-k-requires
 put_sound-k-requires c = write_room c.loop-i.invariant (sound_bytes c.loop-i.sound) (heard_bytes None) (next_at c.loop-i-test.true (next_blank _ _ c.loop-i-test.true c.is_digit.ensures c.if-is_digit.false c.is_letter.ensures c.if-is_letter.false c.if-b-eq32.true)) (heard_next c.loop-i.sound Blank refl)
 
-pub overflow_add-i : goal.overflow_add-i
-overflow_add-i c = omega (arith, c.loop-i-test.true)
-
-pub loop-i-smaller-then-b-eq32 : goal.loop-i-smaller-then-b-eq32
-loop-i-smaller-then-b-eq32 c = omega (arith, c.loop-i-test.true)
-
 pub loop-i-preserved-then-b-eq32 : goal.loop-i-preserved-then-b-eq32
 loop-i-preserved-then-b-eq32 c = write_turn c.loop-i.invariant (sound_bytes c.loop-i.sound) (heard_bytes None) (next_at c.loop-i-test.true (next_blank _ _ c.loop-i-test.true c.is_digit.ensures c.if-is_digit.false c.is_letter.ensures c.if-is_letter.false c.if-b-eq32.true)) (heard_next c.loop-i.sound Blank refl) c.put_sound-k.ensures.0 c.put_sound-k.ensures.1
 
-pub unknown_end-i-requires : goal.unknown_end-i-requires
-unknown_end-i-requires c = (c.loop-i-test.true, sym c.is_unknown.ensures ∙ c.if-is_unknown.true)
-
-pub loop-i-smaller-then-is_unknown : goal.loop-i-smaller-then-is_unknown
-loop-i-smaller-then-is_unknown c = omega (arith, c.loop-i-test.true, c.unknown_end-i.ensures.on, c.unknown_end-i.ensures.high)
-
 pub loop-i-preserved-then-is_unknown : goal.loop-i-preserved-then-is_unknown
 loop-i-preserved-then-is_unknown c = unknowns_past c.unknown_end-i.ensures c.loop-i.sound c.loop-i.invariant
-
-pub overflow_add-i-in-loop-i : goal.overflow_add-i-in-loop-i
-overflow_add-i-in-loop-i c = omega (arith, c.loop-i-test.true)
-
-pub loop-i-smaller : goal.loop-i-smaller
-loop-i-smaller c = omega (arith, c.loop-i-test.true)
 
 pub loop-i-preserved : goal.loop-i-preserved
 loop-i-preserved c = write_on c.loop-i.invariant _ (next_at c.loop-i-test.true (next_mark _ _ c.loop-i-test.true c.is_digit.ensures c.if-is_digit.false c.is_letter.ensures c.if-is_letter.false c.if-b-eq32.false)) (heard_next c.loop-i.sound (Mark _) c.sign-sound.ensures)
 
 pub put_sound-requires : goal.put_sound-requires
 put_sound-requires c = fill_room (sound_bytes c.loop-i.sound) [] (fill_as (heard_none c.loop-i.sound) (write_left c.loop-i.invariant c.loop-i-test.false))
-
-pub shape_of-out : goal.shape_of-out
-shape_of-out c = fill_length (fill_turn (sound_bytes c.loop-i.sound) [] (fill_as (heard_none c.loop-i.sound) (write_left c.loop-i.invariant c.loop-i-test.false)) c.put_sound.ensures.0 c.put_sound.ensures.1)
 
 pub returns : goal.returns
 returns c = fill_past (fill_turn (sound_bytes c.loop-i.sound) [] (fill_as (heard_none c.loop-i.sound) (write_left c.loop-i.invariant c.loop-i-test.false)) c.put_sound.ensures.0 c.put_sound.ensures.1)
