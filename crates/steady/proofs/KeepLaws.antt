@@ -11,7 +11,7 @@ use Rattle.interpretation.specs.Interpretation.{interpretation_of}
 use Rattle.interpretation.specs.declared.Interpretation.{Interpretation}
 use Rattle.interpretation.specs.declared.Interpretation.TheVariants.{Nothing, Clef, Key, Meter, Symbol, Tempo, Name, ShortName, Mode}
 use Rattle.std.proofs.Common.{Ok, Err}
-use Rattle.interpretation.specs.Unsupported.{notice_number, Says}
+use Rattle.interpretation.specs.Unsupported.{notice_number as unsupported_number, Says}
 use Rattle.reference.specs.Reference.{reference_of}
 use Rattle.reference.specs.declared.Key.{Key as Named}
 use Rattle.reference.specs.declared.Key.TheVariants.{Title, Composer, Lyricist, Other as OtherKey}
@@ -98,7 +98,7 @@ applied_is (Mode mode) t p st h = part_is p _ st h
 heeded_is : {row : List Spine} {n : ℕ} (says : Says) (k j : ℕ) (t : Token) (p : ℕ) (st : State) → Is row n st
     → Is row n (heeded says k j t p (part_at st p) st).state
 heeded_is (Ok what) k j t p st h = applied_is what t p st h
-heeded_is (Err why) k j t p st h = notify_is (notice_number why) k j (span_of_token t) st h
+heeded_is (Err why) k j t p st h = notify_is (unsupported_number why) k j (span_of_token t) st h
 
 interpret_is : {row : List Spine} {n : ℕ} (s : Spine) (k j : ℕ) (t : Token) (st : State) → Is row n st → Is row n (interpret s k j t st).state
 interpret_is (line p v) k j t st h = heeded_is (interpretation_of t.bytes (part_at st p).noted) k j t p st h
