@@ -84,18 +84,14 @@ fn barlines_of(token: &[u8]) {
 // M: note tokens with blanks between, to their beams.
 fn beams_of(tokens: &[u8]) {
     let mut state = Beam { held: false };
-    let mut from = 0;
-    while from < tokens.len() {
-        let rest = &tokens[from..];
-        let end = from + slices::find(rest, b' ');
-        let letters = notation::beam::beam_letters(&tokens[from..end]);
+    for (i, token) in tokens.split_inclusive(|b| *b == b' ').enumerate() {
+        let letters = notation::beam::beam_letters(token.strip_suffix(b" ").unwrap_or(token));
         let next = state.next(letters.starts, letters.ends);
-        if 0 < from {
+        if 0 < i {
             print(b" ");
         }
         io::print_decimal(1, u64::from(u8::from(next.mark)));
         state = next.state;
-        from = end + 1;
     }
 }
 
@@ -277,11 +273,8 @@ fn main() {
     let mut text = [0u8; 65536];
     let n = io::read_full(0, &mut text);
     let requests = slices::piece(&text[..], 0, n);
-    let mut from = 0;
-    while from < requests.len() {
-        let end = from + slices::find(&requests[from..], b'\n');
-        answer(&requests[from..end]);
+    for line in requests.split_inclusive(|b| *b == b'\n') {
+        answer(line.strip_suffix(b"\n").unwrap_or(line));
         print(b"\n");
-        from = end + 1;
     }
 }
