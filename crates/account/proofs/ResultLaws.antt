@@ -14,7 +14,8 @@ use Rattle.paths.specs.Token.{path_token}
 use Rattle.interpretation.specs.Interpretation.{interpretation_of}
 use Rattle.interpretation.specs.declared.Interpretation.{Interpretation}
 use Rattle.interpretation.specs.declared.Interpretation.TheVariants.{Nothing, Clef, Key, Meter, Symbol, Tempo, Name, ShortName, Mode}
-use Rattle.std.proofs.Common.{Ok, Err}
+use Rattle.std.proofs.Common.{Ok, Err, Option, Some, None}
+use Rattle.std.specs.Option.{option_map_or}
 use Rattle.interpretation.specs.Unsupported.{notice_number, Says}
 use Rattle.reference.specs.Reference.{reference_of}
 use Rattle.reference.specs.declared.Key.{Key as ReferenceKey}
@@ -125,11 +126,11 @@ signifiers_adds k column bytes st = keep_adds _ bytes st
 
 pub repair_adds : (r : Repair) (k at : ℕ) (bytes : List ℕ) (st : State) → Adds st (notice_repair r k at bytes st) []
 unfolding notice_repair
-repair_adds r k at bytes st = go (eqb (repair_notice r) 0)
+repair_adds r k at bytes st = go (repair_notice r)
   where
-    go : (t : Bool) → Adds st (cond t (quiet st) (notify (repair_notice r) k 0 (span_of at (length bytes)) st)) []
-    go true = quiet_adds st
-    go false = notify_adds (repair_notice r) k 0 (span_of at (length bytes)) st
+    go : (o : Option ℕ) → Adds st (option_map_or (λ (n : ℕ). notify n k 0 (span_of at (length bytes)) st) o (quiet st)) []
+    go None = quiet_adds st
+    go (Some n) = notify_adds n k 0 (span_of at (length bytes)) st
 
 -- "`!!!` lines"
 pub reference_adds : (k at : ℕ) (bytes : List ℕ) (st : State) → Adds st (read_reference k at bytes st) []

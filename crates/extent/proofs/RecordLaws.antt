@@ -19,6 +19,8 @@ use Rattle.sheet.specs.Record.{span_of}
 use Rattle.reading.specs.State.{State}
 use Rattle.reading.specs.Notices.{Token, placed, quiet, notify}
 use Rattle.reading.specs.Records.{notice_repair, by_kind, by_repair, on_row, on_record, by_line, read_line}
+use Rattle.std.proofs.Common.{Option, Some, None}
+use Rattle.std.specs.Option.{option_map_or}
 use Rattle.extent.proofs.LineLaws.{data_total}
 use Rattle.extent.proofs.StateLaws.{either, Holds, After, Passes, widen, widen_step, quiet_holds, behind_holds, notify_holds}
 use Rattle.extent.proofs.HeaderLaws.{reference_holds, header_holds}
@@ -28,9 +30,11 @@ use Rattle.extent.proofs.NoteLaws.{weight, placed_weight, data_holds}
 
 repair_holds : {b n : ℕ} (r : Repair) (k at : ℕ) (line : List ℕ) (st : State) → Holds b n st → After b n (notice_repair r k at line st)
 unfolding notice_repair
-repair_holds {b} {n} r k at line st h =
-    either (After b n) (eqb (repair_notice r) 0) (quiet st) (notify (repair_notice r) k 0 (span_of at (length line)) st) (quiet_holds st h)
-    (notify_holds (repair_notice r) k 0 (span_of at (length line)) st h)
+repair_holds {b} {n} r k at line st h = go (repair_notice r)
+  where
+    go : (o : Option ℕ) → After b n (option_map_or (λ (x : ℕ). notify x k 0 (span_of at (length line)) st) o (quiet st))
+    go None = quiet_holds st h
+    go (Some x) = notify_holds x k 0 (span_of at (length line)) st h
 
 -- only a data record's tokens are weighed
 kind_holds : {b c n : ℕ} (x : Kind) (k : ℕ) (ts : List Token) (st : State) → b ≤ c → (x ≡ Data → b + 5 * weight ts ≤ c) → Holds b n st

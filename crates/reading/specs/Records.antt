@@ -1,5 +1,6 @@
 -- One line of a text: what it begins with, its repair, and the record's kind.
 use Rattle.std.specs.Prelude.{ℕ, Bool, true, false, cond, List, [], ◌∷◌, eqb, length}
+use Rattle.std.specs.Option.{option_map_or}
 use Rattle.lines.specs.Lines.{kind_of}
 use Rattle.lines.specs.Tokens.{tokens_of}
 use Rattle.lines.specs.declared.Kind.{Kind}
@@ -19,7 +20,7 @@ use Rattle.reading.specs.Notes.{read_data, behind}
 
 -- notices 4, 5 and 6 have the line
 unfoldable pub notice_repair : Repair → ℕ → ℕ → List ℕ → State → Result
-notice_repair r k at line st = cond (eqb (repair_notice r) 0) (quiet st) (notify (repair_notice r) k 0 (span_of at (length line)) st)
+notice_repair r k at line st = option_map_or (λ (number : ℕ). notify number k 0 (span_of at (length line)) st) (repair_notice r) (quiet st)
 
 abbrev pub by_kind : Kind → ℕ → List Token → State → Step
 by_kind Empty k ts st = goes (quiet st)

@@ -9,6 +9,7 @@ use borrow.Author.Tests.{ne_eqb}
 use Rattle.state.specs.Counts.{Same}
 use Rattle.lines.specs.Tokens.{tokens_of}
 use Rattle.spines.specs.Cells.{row_of, spine_of}
+use Rattle.std.proofs.Common.{Option, Some, None}
 use Rattle.repair.specs.Repair.{repaired, repaired_of, repair_notice}
 use Rattle.repair.specs.declared.Repair.{Repair}
 use Rattle.sheet.specs.Record.{span_of}
@@ -63,14 +64,13 @@ ends_told u cells parts out' r out at e =
     ap (λ (x : State). ending x u.at out') s ∙ ap₂ (ending r.state) p o
 
 -- notices 4, 5 and 6, or none
-pub no_repair : (r : Repair) (k at : ℕ) (line : List ℕ) (st : State) → repair_notice r ≡ 0 → notice_repair r k at line st ≡ quiet st
+pub no_repair : (r : Repair) (k at : ℕ) (line : List ℕ) (st : State) → repair_notice r ≡ None → notice_repair r k at line st ≡ quiet st
 unfolding notice_repair
 no_repair r k at line st e = rw e
 
-pub repair_noticed : (r : Repair) (k at : ℕ) (line : List ℕ) (st : State) (n : ℕ) → repair_notice r ≡ n → (n ≡ 0 → ⊥)
-    → notice_repair r k at line st ≡ notify n k 0 (span_of at (length line)) st
+pub repair_noticed : (r : Repair) (k at : ℕ) (line : List ℕ) (st : State) (n : ℕ) → repair_notice r ≡ Some n → notice_repair r k at line st ≡ notify n k 0 (span_of at (length line)) st
 unfolding notice_repair
-repair_noticed r k at line st n e z = rw (e, ne_eqb n 0 z)
+repair_noticed r k at line st n e = rw e
 
 -- nothing arises
 pub quiet_told : (t : Tally) (cells parts out : List ℕ) → told (Ok t) cells parts out ≡ landed (goes (quiet (state_of cells parts t))) out t.at
@@ -78,21 +78,21 @@ unfolding laid behind
 quiet_told t cells parts out = refl
 
 module _ (r : Repair) (k at : ℕ) (line : List ℕ) (t : Tally) (out : List ℕ) where
-  pub no_repair_told : {n : ℕ} → n ≡ repair_notice r → n ≡ 0 → (cells parts : List ℕ)
+  pub no_repair_told : {o : Option ℕ} → o ≡ repair_notice r → o ≡ None → (cells parts : List ℕ)
       → told (Ok t) cells parts out ≡ landed (goes (notice_repair r k at line (state_of cells parts t))) out t.at
   no_repair_told e z cells parts =
       quiet_told t cells parts out
       ∙ ap (λ (x : Result). landed (goes x) out t.at) (sym (no_repair r k at line (state_of cells parts t) (sym e ∙ z)))
 
-  pub repair_told : {n len : ℕ} {u : Tally} {out' : List ℕ} → n ≡ repair_notice r → (n ≡ 0 → ⊥) → len ≡ length line
+  pub repair_told : {o : Option ℕ} {n len : ℕ} {u : Tally} {out' : List ℕ} → o ≡ repair_notice r → o ≡ Some n → len ≡ length line
       → (out' ≡ laid out t.at (kept_records t (notice_of n k 0 (span_of at len)) [])) × (u ≡ after_kept t (notice_of n k 0 (span_of at len)) [])
       → ((cells parts : List ℕ) → told (Ok u) cells parts out' ≡ landed (goes (notice_repair r k at line (state_of cells parts t))) out t.at) × Same t u
-  repair_told {n} {len} {u} {out'} e z l w = (
+  repair_told {o} {n} {len} {u} {out'} e z l w = (
     λ (cells parts : List ℕ).
         ap₂ (λ (x : Tally) (o : List ℕ). told (Ok x) cells parts o) w.1 w.0
         ∙ notify_told cells parts t n k 0 (span_of at len) out
         ∙ ap (λ (j : ℕ). landed (goes (notify n k 0 (span_of at j) (state_of cells parts t))) out t.at) l
-        ∙ ap (λ (x : Result). landed (goes x) out t.at) (sym (repair_noticed r k at line (state_of cells parts t) n (sym e) z)),
+        ∙ ap (λ (x : Result). landed (goes x) out t.at) (sym (repair_noticed r k at line (state_of cells parts t) n (sym e ∙ z))),
     subst (λ (x : Tally). Same t x) (sym w.1) (kept_same t (notice_of n k 0 (span_of at len)) []),
   )
 

@@ -22,15 +22,15 @@ use repair::{Repair, Repaired};
 use sheet::Span;
 use state::{Flow, Tally};
 
-// The number of the notice that says of a repair; 0 is none.
-fn repair_notice(repair: Repair) -> u8
+// The number of the notice that says of a repair.
+fn repair_notice(repair: Repair) -> Option<u8>
     ensures { result ≡ repair_notice repair }
 {
     match repair {
-        Repair::Whole => 0,
-        Repair::Cut => 4,
-        Repair::Stars => 5,
-        Repair::Bars => 6,
+        Repair::Whole => None,
+        Repair::Cut => Some(4),
+        Repair::Stars => Some(5),
+        Repair::Bars => Some(6),
     }
 }
 
@@ -47,21 +47,20 @@ fn notice_repair(
     ensures told { (cells parts : List ℕ) → told (Ok result) cells parts out.new ≡ landed (goes (notice_repair repair number offset line.now (state_of cells parts tally))) out.old tally.at }
     ensures same { Same tally result }
 {
-    let n = repair_notice(repair);
-    if n == 0 {
-        return tally;
+    match repair_notice(repair) {
+        None => tally,
+        Some(n) => writing::notify(
+            out,
+            tally,
+            n,
+            number,
+            0,
+            Span {
+                at: offset,
+                len: line.len() as u32,
+            },
+        ),
     }
-    writing::notify(
-        out,
-        tally,
-        n,
-        number,
-        0,
-        Span {
-            at: offset,
-            len: line.len() as u32,
-        },
-    )
 }
 
 // Whether a line of some kind is a record: neither empty nor begun by `!`.

@@ -1,5 +1,5 @@
 -- Repair, on a record's tokens and the number n of active spines. Quoted are document 01's sentences.
-use Rattle.std.specs.Prelude.{ℕ, ◌-◌, Bool, true, false, ◌&&◌, not, cond, eqb, leb, ltb, length, take, drop, replicate}
+use Rattle.std.specs.Prelude.{ℕ, ◌-◌, Bool, true, false, ◌&&◌, not, cond, eqb, leb, ltb, length, take, drop, replicate, Option, Some, None}
 use mathlib.Core.List.{List, [], ◌∷◌, ◌++◌, head_d}
 use Rattle.slices.specs.Ascii.{ascii}
 use Rattle.slices.specs.Compare.{begins_with, same_bytes}
@@ -48,12 +48,12 @@ repair_of n ts =
     (cond (ltb (length ts) n && (leb 2 (length ts) && identical_bars ts)) Bars
     Whole))
 
--- the number of the notice that says so; 0 is none
-abbrev pub repair_notice : Repair → ℕ
-repair_notice Whole = 0
-repair_notice Cut = 4
-repair_notice Stars = 5
-repair_notice Bars = 6
+-- the number of the notice that says so
+abbrev pub repair_notice : Repair → Option ℕ
+repair_notice Whole = None
+repair_notice Cut = Some 4
+repair_notice Stars = Some 5
+repair_notice Bars = Some 6
 
 -- the tokens after a repair
 unfoldable pub repair_by : Repair → ℕ → List (List ℕ) → List (List ℕ)

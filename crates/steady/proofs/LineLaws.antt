@@ -11,6 +11,8 @@ use Rattle.lines.specs.Lines.{kind_of}
 use Rattle.lines.specs.Tokens.{tokens_of, is_kern, is_exclusive}
 use Rattle.lines.specs.declared.Kind.{Kind}
 use Rattle.lines.specs.declared.Kind.TheVariants.{Empty, Reference, Comment, Star, Bar, Data}
+use Rattle.std.proofs.Common.{Option, Some, None}
+use Rattle.std.specs.Option.{option_map_or}
 use Rattle.repair.specs.Repair.{each, repaired, repaired_of, repair_notice}
 use Rattle.repair.specs.declared.Repair.{Repair}
 use Rattle.repair.specs.declared.Repaired.{Repaired}
@@ -111,9 +113,11 @@ notify_firm number k j at len st h =
 
 repair_firm : (r : Repair) (k at : ℕ) (s : List ℕ) (st : State) → Firmly st → Firmly (notice_repair r k at s st).state
 unfolding notice_repair
-repair_firm r k at s st h =
-    either (λ (x : Result). Firmly x.state) (eqb (repair_notice r) 0) (quiet st) (notify (repair_notice r) k 0 (span_of at (length s)) st) h
-    (notify_firm (repair_notice r) k 0 at (length s) st h)
+repair_firm r k at s st h = go (repair_notice r)
+  where
+    go : (o : Option ℕ) → Firmly (option_map_or (λ (n : ℕ). notify n k 0 (span_of at (length s)) st) o (quiet st)).state
+    go None = h
+    go (Some n) = notify_firm n k 0 at (length s) st h
 
 repaired_firm : (x : Repaired) (k at : ℕ) (s : List ℕ) (ts : List Token) (st : State) → Firmly st → StepFirm (by_repair x k at s ts st)
 repaired_firm (Uneven count) k at s ts st h = tt
