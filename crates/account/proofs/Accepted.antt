@@ -13,7 +13,8 @@ use Rattle.paths.specs.Record.{Rec}
 use Rattle.paths.specs.Text.{header_row}
 use Rattle.sheet.specs.Player.{notes_of}
 use Rattle.sheet.specs.Record.{Record}
-use Rattle.reading.specs.State.{Part, State, Result, Step, refused, goes, ends, start}
+use Rattle.reading.specs.State.{State, Result, Step, refused, goes, ends, start}
+use Rattle.reading.specs.declared.Part.{Part}
 use Rattle.reading.specs.Notices.{quiet}
 use Rattle.reading.specs.Bars.{any_noted, closing}
 use Rattle.reading.specs.Records.{read_line, on_record}

@@ -17,7 +17,8 @@ use Rattle.std.specs.Prelude.{Some, None, Ok, Err}
 use Rattle.token.proofs.AccountLaws.{is_heard, note_agrees, length_agrees}
 use Rattle.paths.specs.Row.{Spine, line, branch, outside}
 use Rattle.sheet.specs.Player.{notes_of}
-use Rattle.reading.specs.State.{Part, State, Result, Step, refused, goes, ends, part_at, with_part, with_notes}
+use Rattle.reading.specs.State.{State, Result, Step, refused, goes, ends, part_at, with_part, with_notes}
+use Rattle.reading.specs.declared.Part.{Part}
 use Rattle.reading.specs.Notices.{Token, quiet, after, notify, span_of_token}
 use Rattle.reading.specs.Bars.{any_noted}
 use Rattle.reading.specs.Notes.{bit, flags_of, sounded, note_record, add_note, behind, by_outcome, signify, inferred_for, read_token_at, read_spine, and_then, read_tokens}

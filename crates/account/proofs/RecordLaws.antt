@@ -25,7 +25,8 @@ use Rattle.repair.specs.declared.Repaired.{Repaired}
 use Rattle.repair.specs.declared.Repaired.TheVariants.{Uneven, Mixed, Even}
 use Rattle.sheet.specs.Player.{notes_of}
 use Rattle.sheet.specs.Record.{BAR}
-use Rattle.reading.specs.State.{Part, State, Result, Step, refused, goes, ends, with_parts}
+use Rattle.reading.specs.State.{State, Result, Step, refused, goes, ends, with_parts}
+use Rattle.reading.specs.declared.Part.{Part}
 use Rattle.reading.specs.Notices.{Token, quiet, placed}
 use Rattle.reading.specs.Header.{fresh_parts}
 use Rattle.reading.specs.Star.{read_columns, to_row, read_star}

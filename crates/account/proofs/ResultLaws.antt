@@ -26,7 +26,8 @@ use Rattle.sheet.specs.Player.{Noted, notes_of}
 use Rattle.sheet.specs.Record.{Record, NOTE, BAR, PART, END, NOTICE, span_of}
 use Rattle.sheet.specs.declared.Notice.{Notice as NoticeRecord}
 use Rattle.sheet.specs.declared.Span.{Span}
-use Rattle.reading.specs.State.{Part, State, Result, part_at, fresh_part, with_notices, with_part}
+use Rattle.reading.specs.State.{State, Result, part_at, fresh_part, with_notices, with_part}
+use Rattle.reading.specs.declared.Part.{Part}
 use Rattle.reading.specs.Notices.{Token, quiet, after, keep, notify, notify_signifiers, span_of_token}
 use Rattle.reading.specs.Bars.{any_noted}
 use Rattle.reading.specs.Header.{by_key, read_reference, notice_others}

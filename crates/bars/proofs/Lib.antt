@@ -1,7 +1,5 @@
 -- Laws of closings.
-pub mod CellLaws
-pub mod MarchLaws
-pub mod NotedLaws
+pub mod LoopLaws
 pub mod DecidingLaws
 pub mod CloseLaws
 pub mod EndLaws

@@ -1,12 +1,13 @@
--- A barline record's tokens as repaired, the one that decides, and closings of parts in their cells.
+-- A barline record's tokens as repaired, the one that decides, and closings of parts.
 use Rattle.std.specs.Prelude.{ℕ, ◌+◌, ◌-◌, false, cond, List, [], ◌∷◌, ◌++◌, map, length, take, replicate}
 use Rattle.paths.specs.Row.{Spine}
 use Rattle.repair.specs.Repair.{first_of}
 use Rattle.sheet.specs.Record.{Record, BAR}
 use Rattle.sheet.specs.declared.Bar.{Bar}
 use Rattle.sheet.specs.declared.End.{End}
-use Rattle.reading.specs.State.{Part, fresh_part}
-use Rattle.reading.specs.Bars.{any_noted, is_kern_spine, closed_bar, closed_part, next_bar}
+use Rattle.reading.specs.State.{fresh_part}
+use Rattle.reading.specs.declared.Part.{Part}
+use Rattle.reading.specs.Bars.{any_noted, is_kern_spine, closed_bar, closed_part}
 use Rattle.reading.specs.Text.{last_part}
 use Rattle.state.specs.declared.Tally.{Tally}
 
@@ -24,32 +25,6 @@ deciding_in other (s ∷ row) (t ∷ ts) = cond (is_kern_spine s) t (deciding_in
 unfoldable pub deciding_of : List Spine → List (List ℕ) → List ℕ
 deciding_of [] ts = []
 deciding_of (s ∷ row) ts = deciding_in (first_of ts) (s ∷ row) ts
-
--- a part with its bar 1 anew
-abbrev pub with_first : Part → Bar → Part
-with_first p b = record {
-  named = p.named;
-  name = p.name;
-  short = p.short;
-  mode = p.mode;
-  beams = p.beams;
-  noted = p.noted;
-  current = p.current;
-  first = b;
-}
-
--- a part that begins its next bar
-abbrev pub renewed : ℕ → Part → Part
-renewed left p = record {
-  named = p.named;
-  name = p.name;
-  short = p.short;
-  mode = p.mode;
-  beams = p.beams;
-  noted = false;
-  current = next_bar p.current.part left;
-  first = p.first;
-}
 
 -- the BAR of a part
 abbrev pub bar_record : ℕ → ℕ → Part → Record

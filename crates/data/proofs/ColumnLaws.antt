@@ -13,6 +13,7 @@ use Rattle.paths.specs.Row.{Spine, line, branch, outside}
 use Rattle.spines.specs.Cells.{spine_of, row_of}
 use Rattle.spines.proofs.CellLaws.{cell_at, cell_outside, cell_line, cell_branch}
 use Rattle.reading.specs.State.{State, Step, goes}
+use Rattle.reading.specs.declared.Part.{Part}
 use Rattle.reading.specs.Notices.{Token, quiet}
 use Rattle.reading.specs.Bars.{is_kern_spine}
 use Rattle.reading.specs.Notes as notes
@@ -79,11 +80,10 @@ module _ (text row : List ℕ) (c : Column) where
       ∙ ap (λ (s : Spine). landed (notes.read_spine s (take (length row) (tokens_of text)) (map is_kern_spine (row_of row)) c.line c.index (token_in text c) st) out at)
       (sym (is_line h m))
 
-  pub column_sited : {parts : List ℕ} {t : Tally} → Ready row parts t → c.offset + length text < 2 ^ 27 → c.index < length row → c.from ≤ c.end → c.end ≤ length text
-      → 8 ≤ get_or row c.index 0 → get_or row c.index 0 % 8 ≤ 3 → Sited (token_in text c).bytes parts (spot_of row c) t
+  pub column_sited : {t : Tally} → Ready row t → c.offset + length text < 2 ^ 27 → c.index < length row → c.from ≤ c.end → c.end ≤ length text
+      → 8 ≤ get_or row c.index 0 → get_or row c.index 0 % 8 ≤ 3 → Sited (token_in text c).bytes (spot_of row c) t
   column_sited r low i f e h m = record {
     short = omega (arith, length-take (c.end - c.from) (drop c.from text));
-    parts_long = r.parts_long;
     parts_few = r.parts_few;
     bars_few = r.bars_few;
     part_in = r.within c.index (get_or row c.index 0 / 8 - 1) (get_or row c.index 0 % 8) (cell_at row c.index i ∙ is_line h m);

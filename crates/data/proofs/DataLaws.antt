@@ -18,6 +18,7 @@ use Rattle.paths.specs.Row.{Spine}
 use Rattle.spines.specs.Cells.{spine_of, row_of}
 use Rattle.spines.proofs.CellLaws.{row_drop, row_none}
 use Rattle.reading.specs.State.{State, Step, refused, goes, ends}
+use Rattle.reading.specs.declared.Part.{Part}
 use Rattle.reading.specs.Notices.{placed, quiet}
 use Rattle.reading.specs.Bars.{is_kern_spine}
 use Rattle.reading.specs.Notes as notes
@@ -94,16 +95,15 @@ rest_more line row k offset from i e st h p =
 
 -- ---- the loop
 -- what the whole comes to is what the rest comes to
-pub record Reading (whole : Landed) (line row parts₀ out₀ : List ℕ) (t₀ : Tally) (k offset : ℕ) (parts out : List ℕ) (t : Tally) (from i : ℕ) : Type 0 where
+pub record Reading (whole : Landed) (line row : List ℕ) (parts₀ : List Part) (out₀ : List ℕ) (t₀ : Tally) (k offset : ℕ) (parts : List Part) (out : List ℕ) (t : Tally) (from i : ℕ) : Type 0 where
   pub high : i ≤ length row
-  pub long : length parts ≡ length parts₀
   pub wide : length out ≡ length out₀
   pub kept : Same t₀ t
   pub here : pieces 9 from line ≡ drop i (tokens_of line)
   pub same : whole ≡ landed (rest line row k offset from i (state_of row parts t)) out t.at
 
 -- what a data record comes to
-abbrev pub whole_data : List ℕ → List ℕ → List ℕ → List ℕ → Tally → ℕ → ℕ → Landed
+abbrev pub whole_data : List ℕ → List ℕ → List Part → List ℕ → Tally → ℕ → ℕ → Landed
 whole_data line row parts out t k offset =
     landed (notes.read_data k (placed offset (take (length row) (tokens_of line))) (state_of row parts t)) out t.at
 
@@ -121,7 +121,7 @@ module _ (i : ℕ) {line : List ℕ} {from e : ℕ} (h : pieces 9 from line ≡ 
   pub tokens_behind : pieces 9 (e + 1) line ≡ drop (i + 1) (tokens_of line)
   tokens_behind = ap (drop 1) (sym p.here ∙ h) ∙ drop-drop 1 i (tokens_of line)
 
-pub data_first : (line row parts out : List ℕ) (t : Tally) (k offset : ℕ) → Reading (whole_data line row parts out t k offset) line row parts out t k offset parts out t 0 0
+pub data_first : (line row : List ℕ) (parts : List Part) (out : List ℕ) (t : Tally) (k offset : ℕ) → Reading (whole_data line row parts out t k offset) line row parts out t k offset parts out t 0 0
 unfolding notes.read_data pieces
 data_first line row parts out t k offset =
     let ts : List (List ℕ) = take (length row) (tokens_of line) in
@@ -129,7 +129,6 @@ data_first line row parts out t k offset =
     let z : offset ≡ offset + 0 = omega arith in
     record {
       high = omega arith;
-      long = refl;
       wide = refl;
       kept = same t;
       here = first_piece line;
@@ -137,13 +136,12 @@ data_first line row parts out t k offset =
           ∙ ap₂ (λ (m a : ℕ). landed (notes.read_tokens ts (map is_kern_spine (row_of row)) k 0 (row_of row) (placed a (take m (tokens_of line))) (state_of row parts t)) out t.at) n z;
     }
 
-module _ {whole : Landed} {line row parts₀ out₀ : List ℕ} {t₀ : Tally} {k offset : ℕ} {parts out : List ℕ} {t : Tally} {from i : ℕ}
+module _ {whole : Landed} {line row : List ℕ} {parts₀ : List Part} {out₀ : List ℕ} {t₀ : Tally} {k offset : ℕ} {parts : List Part} {out : List ℕ} {t : Tally} {from i : ℕ}
     (inv : Reading whole line row parts₀ out₀ t₀ k offset parts out t from i) where
   -- between two columns
-  pub data_ready : Ready row parts₀ t₀ → Ready row parts t
+  pub data_ready : Ready row t₀ → Ready row t
   data_ready r = record {
     cells_long = r.cells_long;
-    parts_long = inv.long ∙ r.parts_long;
     parts_few = omega (arith, inv.kept.parts, r.parts_few);
     bars_few = omega (arith, inv.kept.bars, r.bars_few);
     within = λ j p v e. omega (arith, inv.kept.parts, r.within j p v e);
@@ -161,21 +159,20 @@ module _ {whole : Landed} {line row parts₀ out₀ : List ℕ} {t₀ : Tally} {
       ∙ ap (λ (s : Step). landed s out t.at) (sym (rest_done line row k offset from i (state_of row parts t) h))
       ∙ sym inv.same
 
-  module _ {e : ℕ} (parts' out' : List ℕ) (r : Result Tally Refusal) (h : i < length row) (p : Piece 9 line from e)
+  module _ {e : ℕ} (parts' : List Part) (out' : List ℕ) (r : Result Tally Refusal) (h : i < length row) (p : Piece 9 line from e)
       (tells : told r row parts' out' ≡ landed (column_step line row (record { index = i; from = from; end = e; line = k; offset = offset }) (state_of row parts t)) out t.at)
       (keeps : Kept t r) where
     here : whole ≡ landed (notes.and_then (column_step line row (record { index = i; from = from; end = e; line = k; offset = offset }) (state_of row parts t)) (rest line row k offset (e + 1) (i + 1))) out t.at
     here = inv.same ∙ ap (λ (s : Step). landed s out t.at) (rest_more line row k offset from i e (state_of row parts t) h p)
 
-    pub data_turn : {u : Tally} → r ≡ Ok u → length parts' ≡ length parts → length out' ≡ length out
+    pub data_turn : {u : Tally} → r ≡ Ok u → length out' ≡ length out
         → Reading whole line row parts₀ out₀ t₀ k offset parts' out' u (e + 1) (i + 1)
-    data_turn {u} q lp lo =
+    data_turn {u} q lo =
         let tells' : going (state_of row parts' u) u.at out' ≡ landed (column_step line row (record { index = i; from = from; end = e; line = k; offset = offset }) (state_of row parts t)) out t.at
         = ap (λ (s : Result Tally Refusal). told s row parts' out') (sym q) ∙ tells in
         let keeps' : Kept t (Ok u) = rw q at keeps in
         record {
           high = omega arith;
-          long = lp ∙ inv.long;
           wide = lo ∙ inv.wide;
           kept = same_same inv.kept keeps';
           here = tokens_behind i inv.here p;

@@ -30,17 +30,18 @@ use Rattle.notes.proofs.TokenLaws.{plain_step, note_added}
 use Rattle.data.proofs.ShapeLaws.{null_end, note_end, null_column, note_column}
 use Rattle.data.proofs.ColumnLaws.{spot_of, column_outside, column_null, column_line, column_sited}
 use Rattle.data.proofs.DataLaws.{Reading, whole_data, data_first, data_turn}
+use Rattle.reading.specs.declared.Part.{Part}
 
 -- what is left before a stretch
-abbrev pub whole_rest : List ℕ → List ℕ → List ℕ → List ℕ → Tally → ℕ → ℕ → ℕ → ℕ → Landed
+abbrev pub whole_rest : List ℕ → List ℕ → List Part → List ℕ → Tally → ℕ → ℕ → ℕ → ℕ → Landed
 whole_rest line row parts out t k offset from i = landed (rest line row k offset from i (state_of row parts t)) out t.at
 
-pub stretch_first : (line row parts out : List ℕ) (t : Tally) (k offset from i : ℕ) → i ≤ length row → pieces 9 from line ≡ drop i (tokens_of line)
+pub stretch_first : (line row : List ℕ) (parts : List Part) (out : List ℕ) (t : Tally) (k offset from i : ℕ) → i ≤ length row → pieces 9 from line ≡ drop i (tokens_of line)
     → Reading (whole_rest line row parts out t k offset from i) line row parts out t k offset parts out (counts_at t t.notes t.at) from i
 stretch_first line row parts out t k offset from i h p =
-    record { high = h; long = refl; wide = refl; kept = record { active = refl; parts = refl; bars = refl }; here = p; same = refl }
+    record { high = h; wide = refl; kept = record { active = refl; parts = refl; bars = refl }; here = p; same = refl }
 
-module _ {whole : Landed} {line row parts₀ out₀ : List ℕ} {t₀ : Tally} {k offset : ℕ} {parts out : List ℕ} {n at from i : ℕ}
+module _ {whole : Landed} {line row : List ℕ} {parts₀ : List Part} {out₀ : List ℕ} {t₀ : Tally} {k offset : ℕ} {parts : List Part} {out : List ℕ} {n at from i : ℕ}
     (inv : Reading whole line row parts₀ out₀ t₀ k offset parts out (counts_at t₀ n at) from i) (h : i < length row) (low : from ≤ length line) where
   abbrev column : ℕ → Column
   column e = record { index = i; from = from; end = e; line = k; offset = offset }
@@ -48,25 +49,25 @@ module _ {whole : Landed} {line row parts₀ out₀ : List ℕ} {t₀ : Tally} {
   pub outside_turn : {e : ℕ} → get_or row i 0 < 8 → e ≡ piece_end 9 line from
       → Reading whole line row parts₀ out₀ t₀ k offset parts out (counts_at t₀ n at) (e + 1) (i + 1)
   outside_turn {e} o q =
-      data_turn inv parts out (Ok (counts_at t₀ n at)) h (piece_at_lem low q) (column_outside line row (column e) (state_of row parts (counts_at t₀ n at)) out at o) (same (counts_at t₀ n at)) refl refl refl
+      data_turn inv parts out (Ok (counts_at t₀ n at)) h (piece_at_lem low q) (column_outside line row (column e) (state_of row parts (counts_at t₀ n at)) out at o) (same (counts_at t₀ n at)) refl refl
 
   pub null_turn : {e : ℕ} {s : Shape} → ShapeAt line from s → s ≡ Null e
       → Reading whole line row parts₀ out₀ t₀ k offset parts out (counts_at t₀ n at) (e + 1) (i + 1)
   null_turn {e} {s} shape q =
       let z : e ≡ piece_end 9 line from = null_end line from s shape q in
       data_turn inv parts out (Ok (counts_at t₀ n at)) h (piece_at_lem low z)
-      (column_null line row (column e) (state_of row parts (counts_at t₀ n at)) out at (null_column line (column e) s shape z q)) (same (counts_at t₀ n at)) refl refl refl
+      (column_null line row (column e) (state_of row parts (counts_at t₀ n at)) out at (null_column line (column e) s shape z q)) (same (counts_at t₀ n at)) refl refl
 
   -- the spot of a note, whose offset no NOTE has
   abbrev spot_here : Spot
   spot_here = spot_at (get_or row i 0) i k 0
 
-  pub note_turn : {p : Plain} {s : Shape} {spot : Spot} {parts' out' : List ℕ} {place : ℕ} → ShapeAt line from s → s ≡ Note p → 8 ≤ get_or row i 0
+  pub note_turn : {p : Plain} {s : Shape} {spot : Spot} {parts' : List Part} {out' : List ℕ} {place : ℕ} → ShapeAt line from s → s ≡ Note p → 8 ≤ get_or row i 0
       → AtOnce (get_or row i 0) n p.unknown t₀.notices
       → spot ≡ spot_here → PlainWritten (piece_at line from (p.end - from)) p spot t₀ at parts out parts' out' place
-      → length parts' ≡ length parts → length out' ≡ length out
+      → length out' ≡ length out
       → Reading whole line row parts₀ out₀ t₀ k offset parts' out' (counts_at t₀ (n + 1) place) (p.end + 1) (i + 1)
-  note_turn {p} {s} {spot} {parts'} {out'} {place} shape q kern once is by lp lo =
+  note_turn {p} {s} {spot} {parts'} {out'} {place} shape q kern once is by lo =
       let written : PlainWritten (piece_at line from (p.end - from)) p spot_here t₀ at parts out parts' out' place = subst (λ (x : Spot). PlainWritten (piece_at line from (p.end - from)) p x t₀ at parts out parts' out' place) is by in
       let z : p.end ≡ piece_end 9 line from = note_end line from s shape q in
       let c : Column = column p.end in
@@ -76,16 +77,15 @@ module _ {whole : Landed} {line row parts₀ out₀ : List ℕ} {t₀ : Tally} {
       let added = note_added row parts parts' token p.note (spot_of row c) {t = t} {u = t} {w = counts_at t₀ (n + 1) place} once.few (inferred_no token (spot_of row c) t out plain.sure) (sym plain.letters) written.sounds refl refl written.lays written.ends refl in
       data_turn inv parts' out' (Ok (counts_at t₀ (n + 1) place)) h (piece_at_lem low z)
       (column_line line row c (state_of row parts t) out at kern once.line refl refl (plain_step row parts token _ (spot_of row c) t out plain once.full added))
-      (record { active = refl; parts = refl; bars = refl }) refl lp lo
+      (record { active = refl; parts = refl; bars = refl }) refl lo
 
   -- it is one of a part and of a voice
-  pub note_sited : {e : ℕ} → Ready row parts₀ t₀ → length line < 2 ^ 27 → from ≤ e → e ≤ length line → 8 ≤ get_or row i 0 → get_or row i 0 % 8 ≤ 3
-      → Sited (piece_at line from (e - from)) parts spot_here t₀
+  pub note_sited : {e : ℕ} → Ready row t₀ → length line < 2 ^ 27 → from ≤ e → e ≤ length line → 8 ≤ get_or row i 0 → get_or row i 0 % 8 ≤ 3
+      → Sited (piece_at line from (e - from)) spot_here t₀
   note_sited {e} ready short l r kern voice =
       let s = column_sited line row (record { index = i; from = from; end = e; line = k; offset = 0 }) ready (omega arith) h l r kern voice in
       record {
         short = s.short;
-        parts_long = inv.long ∙ ready.parts_long;
         parts_few = s.parts_few;
         bars_few = s.bars_few;
         part_in = s.part_in;
@@ -93,14 +93,14 @@ module _ {whole : Landed} {line row parts₀ out₀ : List ℕ} {t₀ : Tally} {
       }
 
 -- where a stretch ends
-pub stretch_ends : {line row parts₀ out₀ : List ℕ} {t : Tally} {k offset from₀ i₀ : ℕ} {parts out : List ℕ} {from i n at : ℕ} → i₀ ≤ i
+pub stretch_ends : {line row : List ℕ} {parts₀ : List Part} {out₀ : List ℕ} {t : Tally} {k offset from₀ i₀ : ℕ} {parts : List Part} {out : List ℕ} {from i n at : ℕ} → i₀ ≤ i
     → Reading (whole_rest line row parts₀ out₀ t k offset from₀ i₀) line row parts₀ out₀ t k offset parts out (counts_at t n at) from i
     → Stretched line row parts₀ out₀ t k offset from₀ i₀ parts out (record { from = from; index = i; notes = n; at = at })
 stretch_ends low inv = record { low = low; high = inv.high; here = inv.here; same = inv.same }
 
 -- ---- a stretch, and a column that is read by itself
 -- the record from its first stretch on
-pub data_begun : {line row parts₀ out₀ : List ℕ} {t₀ : Tally} {k offset : ℕ} {parts out : List ℕ} {s : Stretch} {t : Tally}
+pub data_begun : {line row : List ℕ} {parts₀ : List Part} {out₀ : List ℕ} {t₀ : Tally} {k offset : ℕ} {parts : List Part} {out : List ℕ} {s : Stretch} {t : Tally}
     → Stretched line row parts₀ out₀ t₀ k offset 0 0 parts out s → t ≡ with_stretch t₀ s
     → whole_data line row parts₀ out₀ t₀ k offset ≡ whole_rest line row parts out t k offset s.from s.index
 data_begun {line} {row} {parts₀} {out₀} {t₀} {k} {offset} {parts} {out} {s} {t} h e =
@@ -111,28 +111,25 @@ data_begun {line} {row} {parts₀} {out₀} {t₀} {k} {offset} {parts} {out} {s
 pub begun_kept : {t₀ t : Tally} (s : Stretch) → t ≡ with_stretch t₀ s → Same t₀ t
 begun_kept s e = rw e (record { active = refl; parts = refl; bars = refl })
 
-pub begun_ready : {row parts₀ parts : List ℕ} {t₀ t : Tally} (s : Stretch) → Ready row parts₀ t₀ → length parts ≡ length parts₀ → t ≡ with_stretch t₀ s
-    → Ready row parts t
-begun_ready s r l e = rw e (record {
+pub begun_ready : {row : List ℕ} {t₀ t : Tally} (s : Stretch) → Ready row t₀ → t ≡ with_stretch t₀ s → Ready row t
+begun_ready s r e = rw e (record {
   cells_long = r.cells_long;
-  parts_long = l ∙ r.parts_long;
   parts_few = r.parts_few;
   bars_few = r.bars_few;
   within = r.within;
 })
 
-pub rest_first : {line row parts out : List ℕ} {t : Tally} {k offset from i : ℕ} → i ≤ length row → pieces 9 from line ≡ drop i (tokens_of line)
+pub rest_first : {line row : List ℕ} {parts : List Part} {out : List ℕ} {t : Tally} {k offset from i : ℕ} → i ≤ length row → pieces 9 from line ≡ drop i (tokens_of line)
     → Reading (whole_rest line row parts out t k offset from i) line row parts out t k offset parts out t from i
-rest_first {t = t} h p = record { high = h; long = refl; wide = refl; kept = same t; here = p; same = refl }
+rest_first {t = t} h p = record { high = h; wide = refl; kept = same t; here = p; same = refl }
 
 -- one stretch more
-pub stretch_turn : {whole : Landed} {line row parts₀ out₀ : List ℕ} {t₀ : Tally} {k offset : ℕ} {parts out parts' out' : List ℕ} {u t : Tally} {from i : ℕ} {s : Stretch}
+pub stretch_turn : {whole : Landed} {line row : List ℕ} {parts₀ : List Part} {out₀ : List ℕ} {t₀ : Tally} {k offset : ℕ} {parts : List Part} {out : List ℕ} {parts' : List Part} {out' : List ℕ} {u t : Tally} {from i : ℕ} {s : Stretch}
     → Reading whole line row parts₀ out₀ t₀ k offset parts out u from i → Stretched line row parts out u k offset from i parts' out' s → t ≡ with_stretch u s
-    → length parts' ≡ length parts → length out' ≡ length out
+    → length out' ≡ length out
     → Reading whole line row parts₀ out₀ t₀ k offset parts' out' t s.from s.index
-stretch_turn {line = line} {row = row} {k = k} {offset = offset} {parts' = parts'} {out' = out'} {s = s} inv h e lp lo = record {
+stretch_turn {line = line} {row = row} {k = k} {offset = offset} {parts' = parts'} {out' = out'} {s = s} inv h e lo = record {
   high = h.high;
-  long = lp ∙ inv.long;
   wide = lo ∙ inv.wide;
   kept = same_same inv.kept (begun_kept s e);
   here = h.here;

@@ -2,6 +2,7 @@
 use Rattle.std.specs.Prelude.{◌≡◌, ℕ, ◌%◌, ◌≤◌, ◌<◌, Bool, true, List, length, drop}
 use Rattle.slices.specs.Split.{pieces}
 use Rattle.lines.specs.Tokens.{tokens_of}
+use Rattle.reading.specs.declared.Part.{Part}
 use Rattle.state.specs.declared.Tally.{Tally}
 use Rattle.state.specs.View.{state_of, landed}
 use Rattle.data.specs.declared.Stretch.{Stretch}
@@ -33,7 +34,7 @@ abbrev pub with_stretch : Tally → Stretch → Tally
 with_stretch t s = counts_at t s.notes s.at
 
 -- what was left of a record before a stretch is what is left behind it
-pub record Stretched (line row parts₀ out₀ : List ℕ) (t : Tally) (k offset from i : ℕ) (parts out : List ℕ) (s : Stretch) : Type 0 where
+pub record Stretched (line row : List ℕ) (parts₀ : List Part) (out₀ : List ℕ) (t : Tally) (k offset from i : ℕ) (parts : List Part) (out : List ℕ) (s : Stretch) : Type 0 where
   pub low : i ≤ s.index
   pub high : s.index ≤ length row
   pub here : pieces 9 s.from line ≡ drop s.index (tokens_of line)

@@ -17,6 +17,7 @@ ghost use Rattle.data.specs.Stretch.{AtOnce, with_stretch, Stretched};
 use duration::Value;
 use notes::Spot;
 use plain::Shape;
+use reading::Part;
 use refusal::Refusal;
 use state::Tally;
 
@@ -94,11 +95,11 @@ fn read_column(
     row: &[u16],
     column: Column,
     asked: Asked,
-    parts: &mut [u32],
+    parts: &mut [Part; 256],
     tally: Tally,
     out: &mut [u8],
 ) -> Result<Tally, Refusal>
-    requires { Ready row.now parts.old tally × ((column.offset + length line.now < 2 ^ 27) × Entered line.now row.now column asked) }
+    requires { Ready row.now tally × ((column.offset + length line.now < 2 ^ 27) × Entered line.now row.now column asked) }
     ensures { (told result row.now parts.new out.new ≡ landed (column_step line.now row.now column (state_of row.now parts.old tally)) out.old tally.at) × Kept tally result }
 {
     let i = column.index;
@@ -148,14 +149,14 @@ fn at_once(cell: u16, notes: u32, unknown: bool, notices: u32) -> bool
 fn read_stretch(
     line: &[u8],
     row: &[u16],
-    parts: &mut [u32],
+    parts: &mut [Part; 256],
     tally: Tally,
     number: u32,
     begin: usize,
     first: usize,
     out: &mut [u8],
 ) -> Stretch
-    requires { Ready row.now parts.old tally × ((length line.now < 2 ^ 27) × ((first ≤ length row.now) × (pieces 9 begin line.now ≡ drop first (tokens_of line.now)))) }
+    requires { Ready row.now tally × ((length line.now < 2 ^ 27) × ((first ≤ length row.now) × (pieces 9 begin line.now ≡ drop first (tokens_of line.now)))) }
     ensures { (offset : ℕ) → Stretched line.now row.now parts.old out.old tally number offset begin first parts.new out.new result }
 {
     let mut from = begin;
@@ -217,13 +218,13 @@ fn with_stretch(tally: Tally, s: Stretch) -> Tally
 pub fn read_data(
     line: &[u8],
     row: &[u16],
-    parts: &mut [u32],
+    parts: &mut [Part; 256],
     tally: Tally,
     number: u32,
     offset: u32,
     out: &mut [u8],
 ) -> Result<Tally, Refusal>
-    requires { Ready row.now parts.old tally × ((offset + length line.now < 2 ^ 27) × (number < 2 ^ 27)) }
+    requires { Ready row.now tally × ((offset + length line.now < 2 ^ 27) × (number < 2 ^ 27)) }
     ensures { (told result row.now parts.new out.new ≡ landed (read_data number (placed offset (take (length row.now) (tokens_of line.now))) (state_of row.now parts.old tally)) out.old tally.at) × Kept tally result }
 {
     let mut s = read_stretch(line, row, parts, tally, number, 0, 0, out);

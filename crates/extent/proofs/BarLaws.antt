@@ -9,7 +9,8 @@ use lib.ListN.{length, length-append, length-map}
 use Rattle.notation.specs.Barline.{barlines_of, barline_number}
 use Rattle.sheet.specs.Record.{Record, BAR, record_bytes, records_bytes}
 use Rattle.sheet.proofs.BarLaws.{BAR_length}
-use Rattle.reading.specs.State.{Part, State, with_parts}
+use Rattle.reading.specs.State.{State, with_parts}
+use Rattle.reading.specs.declared.Part.{Part}
 use Rattle.reading.specs.Notices.{Token, quiet}
 use Rattle.reading.specs.Bars.{any_noted, closed_bar, closed_part, closing, left_anew, keep_left, deciding, close_with, read_bar}
 use Rattle.extent.proofs.StateLaws.{Holds, After, quiet_holds, noted_map, parts_hold}

@@ -15,7 +15,8 @@ use Rattle.paths.specs.declared.PathToken.TheVariants.{Split, Join, Exchange, En
 use Rattle.paths.specs.Token.{path_token}
 use Rattle.paths.specs.Row.{Spine, line, branch, outside}
 use Rattle.paths.specs.Voices.{Outcome, next, mixed, voiceless, wide, step_row}
-use Rattle.reading.specs.State.{Part, State, Result, part_at, with_part}
+use Rattle.reading.specs.State.{State, Result, part_at, with_part}
+use Rattle.reading.specs.declared.Part.{Part}
 use Rattle.reading.specs.Notices.{Token, span_of_token, quiet}
 use Rattle.reading.specs.Star.{applied, heeded, interpret, column_by, paired, read_columns, to_row, read_star}
 use Rattle.extent.proofs.StateLaws.{Holds, After, Passes, quiet_holds, after_holds, notify_holds, part_holds}

@@ -15,7 +15,8 @@ use Rattle.sheet.specs.declared.Head.{Head}
 use Rattle.sheet.proofs.HeadLaws.{head_length}
 use Rattle.sheet.proofs.PartLaws.{PART_length}
 use Rattle.sheet.proofs.EndLaws.{END_length}
-use Rattle.reading.specs.State.{Part, State, Result, Step, refused, goes, ends, start}
+use Rattle.reading.specs.State.{State, Result, Step, refused, goes, ends, start}
+use Rattle.reading.specs.declared.Part.{Part}
 use Rattle.reading.specs.Notices.{quiet}
 use Rattle.reading.specs.Bars.{any_noted, closing}
 use Rattle.reading.specs.Records.{read_line, is_record}

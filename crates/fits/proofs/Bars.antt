@@ -10,7 +10,8 @@ use Rattle.sheet.specs.declared.Bar.{Bar}
 use Rattle.notation.specs.Barline.{barlines_of, barline_number}
 use Rattle.notation.specs.declared.barline.Barline.{Barline}
 use Rattle.notation.specs.declared.barline.Barline.TheVariants.{Normal, Double, Final, RepeatStart, RepeatEnd, Invisible}
-use Rattle.reading.specs.State.{Part, State, with_parts}
+use Rattle.reading.specs.State.{State, with_parts}
+use Rattle.reading.specs.declared.Part.{Part}
 use Rattle.reading.specs.Notices.{Token, quiet}
 use Rattle.reading.specs.Bars.{any_noted, filled_meter, closed_bar, next_bar, closed_part, closing, left_anew, keep_left, deciding, close_with, read_bar}
 use Rattle.fits.proofs.Each.{either, all_map}

@@ -11,7 +11,8 @@ use Rattle.sheet.specs.Fits.{All, U8, U16, U32, SpanFits, BarFits, NoticeFits, F
 use Rattle.sheet.specs.declared.Span.{Span}
 use Rattle.sheet.specs.declared.Bar.{Bar}
 use Rattle.sheet.specs.declared.Notice.{Notice}
-use Rattle.reading.specs.State.{Part, State, Result, Step, refused, goes, ends, empty, start, blank_bar, fresh_part, part_at, with_part, with_notices}
+use Rattle.reading.specs.State.{State, Result, Step, refused, goes, ends, empty, start, blank_bar, fresh_part, part_at, with_part, with_notices}
+use Rattle.reading.specs.declared.Part.{Part}
 use Rattle.reading.specs.Notices.{Token, span_of_token, quiet, after, keep, notify, notify_signifiers}
 use Rattle.fits.proofs.Each.{all_append, all_get_d, all_set}
 use Rattle.fits.proofs.Cuts.{TokenFits}

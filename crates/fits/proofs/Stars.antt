@@ -27,7 +27,8 @@ use Rattle.paths.specs.declared.PathToken.TheVariants.{Split, Join, Exchange, En
 use Rattle.paths.specs.Token.{path_token}
 use Rattle.paths.specs.Row.{Spine, line, branch, outside}
 use Rattle.paths.specs.Voices.{Outcome, next, mixed, voiceless, wide, step_row}
-use Rattle.reading.specs.State.{Part, State, Result, part_at}
+use Rattle.reading.specs.State.{State, Result, part_at}
+use Rattle.reading.specs.declared.Part.{Part}
 use Rattle.reading.specs.Notices.{Token, span_of_token}
 use Rattle.reading.specs.Star.{with_clef, with_key, with_meter, with_symbol, with_bar_tempo, with_mode, barring, name_span, applied, heeded, interpret, column_by, paired, read_columns, to_row, read_star}
 use Rattle.fits.proofs.Each.{either}

@@ -20,11 +20,11 @@ use Rattle.repair.specs.Repair.{each}
 use Rattle.spines.specs.Cells.{row_of}
 use Rattle.sheet.specs.Record.{span_of}
 use Rattle.sheet.specs.declared.Span.{Span}
-use Rattle.reading.specs.State.{Part, State, Result, Step, goes, with_row, with_parts, with_title, with_composer, with_lyricist}
+use Rattle.reading.specs.State.{State, Result, Step, goes, with_row, with_parts, with_title, with_composer, with_lyricist}
+use Rattle.reading.specs.declared.Part.{Part}
 use Rattle.reading.specs.Notices.{placed, quiet, keep}
 use Rattle.reading.specs.Header.{by_key, key_span, value_span, read_reference, notice_others, fresh_parts, read_header}
 use Rattle.state.specs.Lay.{laid, behind}
-use Rattle.state.specs.Parts.{parts_of}
 use Rattle.state.specs.View.{state_of, Landed, stopped, going, landed, told}
 use Rattle.state.specs.declared.Tally.{Tally}
 use Rattle.writing.specs.Kept.{kept_records, after_kept}
@@ -53,7 +53,7 @@ module _ (s t : List ℕ) (r : Reference) (k offset : ℕ) (u : Tally) (cut : t 
       ap (λ (q : Reference). by_key q.key k (value_span (offset + 3) q) (key_span (offset + 3) q) st) (sym (is ∙ ap reference_of cut))
       ∙ ap₂ (λ (y : Key) (v : Span). by_key y k v (key_span (offset + 3) r) st) e (sym there)
 
-  module _ (cells parts out : List ℕ) where
+  module _ (cells : List ℕ) (parts : List Part) (out : List ℕ) where
     abbrev result : Landed
     result = landed (goes (read_reference k offset s (state_of cells parts u))) out u.at
 
@@ -115,14 +115,14 @@ begun t n m = record {
   at = t.at;
 }
 
-module _ (s : List ℕ) (k offset : ℕ) (t : Tally) (row parts : List ℕ) (out : List ℕ) (n m : ℕ) (a : true ≡ each is_exclusive (tokens_of s))
+module _ (s : List ℕ) (k offset : ℕ) (t : Tally) (row : List ℕ) (parts : List Part) (out : List ℕ) (n m : ℕ) (a : true ≡ each is_exclusive (tokens_of s))
     (e : n ≡ length (tokens_of s)) (few : n ≤ 256)
     (filled : (row_of (take (length (tokens_of s)) row) ≡ header_row (map is_kern (tokens_of s))) × ((m ≡ length (fresh_parts 0 (map is_kern (tokens_of s)))) × (m ≤ 256)))
     (some-kern : m ≡ 0 → ⊥)
-    (fresh : (ks : List Bool) → m ≡ length (fresh_parts 0 ks) → parts_of m parts ≡ fresh_parts 0 ks) where
+    (fresh : (ks : List Bool) → m ≡ length (fresh_parts 0 ks) → take m parts ≡ fresh_parts 0 ks) where
   pub header_told : (r : Tally) (last : List ℕ)
-      → Same (begun t n m) r × ((cells parts : List ℕ) → told (Ok r) cells parts last ≡ landed (goes (notice_others k 1 (placed offset (tokens_of s)) (state_of cells parts (begun t n m)))) out t.at)
-      → (cells old : List ℕ) → going (state_of (take r.active row) parts r) r.at last ≡ landed (read_header k offset s (state_of cells old t)) out t.at
+      → Same (begun t n m) r × ((cells : List ℕ) (parts : List Part) → told (Ok r) cells parts last ≡ landed (goes (notice_others k 1 (placed offset (tokens_of s)) (state_of cells parts (begun t n m)))) out t.at)
+      → (cells : List ℕ) (old : List Part) → going (state_of (take r.active row) parts r) r.at last ≡ landed (read_header k offset s (state_of cells old t)) out t.at
   header_told r last w cells old =
       let x : take r.active row ≡ take (length (tokens_of s)) row = ap (λ (i : ℕ). take i row) (w.0.active ∙ e) in
       let ks = map is_kern (tokens_of s) in

@@ -17,6 +17,7 @@ use Rattle.lines.specs.Tokens.{tokens_of, is_kern}
 use Rattle.lines.proofs.PieceLaws.{piece_at_lem}
 use Rattle.sheet.specs.Record.{span_of}
 use Rattle.reading.specs.State.{State, Result, goes}
+use Rattle.reading.specs.declared.Part.{Part}
 use Rattle.reading.specs.Notices.{Token, placed, quiet, after, notify}
 use Rattle.reading.specs.Header.{notice_others}
 use Rattle.state.specs.Lay.{laid, behind}
@@ -29,13 +30,13 @@ use Rattle.header.specs.Columns.{notice_other}
 
 -- ---- a notice for a column
 pub other_kern : (token : List ℕ) (k j at : ℕ) (t : Tally) (out : List ℕ) → is_kern token ≡ true
-    → Same t t × ((cells parts : List ℕ) → told (Ok t) cells parts out ≡ landed (goes (notice_other k j at token (state_of cells parts t))) out t.at)
+    → Same t t × ((cells : List ℕ) (parts : List Part) → told (Ok t) cells parts out ≡ landed (goes (notice_other k j at token (state_of cells parts t))) out t.at)
 unfolding notice_other laid behind
 other_kern token k j at t out e = (same t, λ cells parts. rw e refl)
 
 pub other_told : (token : List ℕ) (k j at : ℕ) (t r : Tally) (out last : List ℕ) → is_kern token ≡ false
     → (last ≡ laid out t.at (kept_records t (notice_of 2 k j (span_of at (length token))) [])) × (r ≡ after_kept t (notice_of 2 k j (span_of at (length token))) [])
-    → Same t r × ((cells parts : List ℕ) → told (Ok r) cells parts last ≡ landed (goes (notice_other k j at token (state_of cells parts t))) out t.at)
+    → Same t r × ((cells : List ℕ) (parts : List Part) → told (Ok r) cells parts last ≡ landed (goes (notice_other k j at token (state_of cells parts t))) out t.at)
 unfolding notice_other
 other_told token k j at t r out last e w =
     let n = notice_of 2 k j (span_of at (length token)) in (
@@ -69,7 +70,7 @@ landed_after r f out at =
     ap₂ (going (f r.state).state) (behind_append r.records (f r.state).records at) (laid_append r.records (f r.state).records out at)
 
 -- what is told of a state goes on as what is landed
-carry : (t : Tally) (cells parts last out : List ℕ) (at : ℕ) (r : Result) (f : State → Result) → told (Ok t) cells parts last ≡ landed (goes r) out at
+carry : (t : Tally) (cells : List ℕ) (parts : List Part) (last out : List ℕ) (at : ℕ) (r : Result) (f : State → Result) → told (Ok t) cells parts last ≡ landed (goes r) out at
     → landed (goes (f (state_of cells parts t))) last t.at ≡ landed (goes (after r f)) out at
 carry t cells parts last out at r f e =
     let s : state_of cells parts t ≡ r.state = cc in
@@ -84,7 +85,7 @@ pub record Noticing (s : List ℕ) (k offset : ℕ) (t₀ : Tally) (out₀ : Lis
   pub kept : length out ≡ length out₀
   pub same : Same t₀ t
   pub count : j + length (pieces 9 from s) ≡ 1 + length (tokens_of s)
-  pub left : (cells parts : List ℕ)
+  pub left : (cells : List ℕ) (parts : List Part)
       → landed (goes (notice_others k j (placed (offset + from) (pieces 9 from s)) (state_of cells parts t))) out t.at
       ≡ landed (goes (notice_others k 1 (placed offset (tokens_of s)) (state_of cells parts t₀))) out₀ t₀.at
 
@@ -113,7 +114,7 @@ module _ {s : List ℕ} {k offset : ℕ} {t₀ t : Tally} {out₀ out : List ℕ
   token_short few = omega (arith, long, (piece_at_lem h at).high)
 
   pub noticing_turn : {r : Tally} {last : List ℕ} → length last ≡ length out
-      → Same t r × ((cells parts : List ℕ) → told (Ok r) cells parts last ≡ landed (goes (notice_other k j (offset + from) (take (e - from) (drop from s)) (state_of cells parts t))) out t.at)
+      → Same t r × ((cells : List ℕ) (parts : List Part) → told (Ok r) cells parts last ≡ landed (goes (notice_other k j (offset + from) (take (e - from) (drop from s)) (state_of cells parts t))) out t.at)
       → Noticing s k offset t₀ out₀ r last (e + 1) (j + 1)
   noticing_turn {r} {last} l w = record {
     kept = l ∙ inv.kept;
@@ -135,7 +136,7 @@ module _ {s : List ℕ} {k offset : ℕ} {t₀ t : Tally} {out₀ out : List ℕ
       place = omega (arith, long, (piece_at_lem h at).low)
 
 pub noticing_past : {s : List ℕ} {k offset : ℕ} {t₀ t : Tally} {out₀ out : List ℕ} {from j : ℕ} → Noticing s k offset t₀ out₀ t out from j → length s < from
-    → Same t₀ t × ((cells parts : List ℕ) → told (Ok t) cells parts out ≡ landed (goes (notice_others k 1 (placed offset (tokens_of s)) (state_of cells parts t₀))) out₀ t₀.at)
+    → Same t₀ t × ((cells : List ℕ) (parts : List Part) → told (Ok t) cells parts out ≡ landed (goes (notice_others k 1 (placed offset (tokens_of s)) (state_of cells parts t₀))) out₀ t₀.at)
 unfolding notice_others placed laid behind
 noticing_past {s} {k} {offset} {t₀} {t} {out₀} {out} {from} {j} inv h = (
   inv.same,

@@ -1,20 +1,22 @@
 #![tactic(auto)]
 
 // Reference records, and the header: the first row and its parts.
-ghost use Rattle.std.specs.Prelude.{◌≡◌, Bool, List, [], ◌∷◌, map, ℕ, ◌+◌, ◌≤◌, ◌<◌, ◌^◌, length, take, set, replicate};
+ghost use Rattle.std.specs.Prelude.{◌≡◌, Bool, List, [], ◌∷◌, map, ℕ, ◌+◌, ◌≤◌, ◌<◌, ◌^◌, length, take};
 ghost use Rattle.lines.specs.Tokens.{tokens_of, is_kern, is_exclusive};
 ghost use Rattle.paths.specs.Text.{header_from, header_row};
 ghost use Rattle.repair.specs.Repair.{each};
 ghost use Rattle.spines.specs.Cells.{spine_of, row_of};
 ghost use Rattle.spines.specs.Table.{cell_of, cells_of};
-ghost use Rattle.reading.specs.State.{goes, fresh_part};
+ghost use Rattle.reading.specs.State.{goes};
+ghost use Rattle.reading.specs.declared.Part.{Part};
 ghost use Rattle.reading.specs.Notices.{placed};
 ghost use Rattle.reading.specs.Header.{read_reference, notice_others, fresh_parts, read_header};
-ghost use Rattle.state.specs.Parts.{part_of, parts_of};
+ghost use Rattle.state.specs.Ready.{Few};
 ghost use Rattle.state.specs.View.{state_of, landed, told, told_row};
 ghost use Rattle.header.specs.Columns.{notice_other, HeaderTable};
 ghost use Rattle.state.specs.Counts.{Same};
 
+use reading::Part;
 use reference::Key;
 use refusal::Refusal;
 use sheet::{Notice, Span};
@@ -24,7 +26,8 @@ use state::Tally;
 // A reference record: `!!!OTL`, `!!!COM` and `!!!LYR` set title, composer and lyricist; any other key gives notice 1.
 pub fn read_reference(line: &[u8], number: u32, offset: u32, tally: Tally, out: &mut [u8]) -> Tally
     requires { offset + length line.now < 2 ^ 27 }
-    ensures { (cells parts : List ℕ) → told (Ok result) cells parts out.new ≡ landed (goes (read_reference number offset line.now (state_of cells parts tally))) out.old tally.at }
+    ensures told { (cells : List ℕ) (parts : List Part) → told (Ok result) cells parts out.new ≡ landed (goes (read_reference number offset line.now (state_of cells parts tally))) out.old tally.at }
+    ensures same { Same tally result }
 {
     let r = reference::reference_of(interpretation::tail(line, 3));
     let from = offset + 3;
@@ -158,46 +161,13 @@ pub fn fill_row(line: &[u8], row: &mut [u16]) -> usize
     table.parts
 }
 
-// Cells of 0.
-fn clear(cells: &mut [u32])
-    ensures { cells.new ≡ replicate (length cells.old) 0 }
+// The parts of the header, as many as the slice has, of which nothing is known.
+fn fresh_parts(parts: &mut [Part])
+    requires { length parts.old ≤ 256 }
+    ensures { (ks : List Bool) → length parts.old ≡ length (fresh_parts 0 ks) → parts.new ≡ fresh_parts 0 ks }
 {
-    let mut i = 0;
-    while i < cells.len() {
-        cells[i] = 0;
-        i += 1;
-    }
-}
-
-// The cells of a part of which nothing is known.
-fn fresh_part(cells: &mut [u32], p: u32)
-    requires { (length cells.old ≡ 35) × (p < 256) }
-    ensures { part_of cells.new ≡ fresh_part p }
-{
-    clear(cells);
-    cells[11] = p;
-    cells[23] = p;
-}
-
-// The same of part p among the parts.
-fn lay_part(parts: &mut [u32], p: usize)
-    requires { (length parts.old ≡ 8960) × (p < 256) }
-    ensures { (n : ℕ) → p < n → n ≤ 256 → parts_of n parts.new ≡ set (parts_of n parts.old) p (fresh_part p) }
-{
-    let a = p * 35;
-    let e = a + 35;
-    fresh_part(&mut parts[a..e], p as u32);
-}
-
-// The parts of the header, n of them.
-fn fresh_parts(parts: &mut [u32], n: usize)
-    requires { (length parts.old ≡ 8960) × (n ≤ 256) }
-    ensures { (ks : List Bool) → n ≡ length (fresh_parts 0 ks) → parts_of n parts.new ≡ fresh_parts 0 ks }
-{
-    let mut p = 0;
-    while p < n {
-        lay_part(parts, p);
-        p += 1;
+    for (p, part) in parts.iter_mut().enumerate() {
+        *part = state::fresh_part(p as u8);
     }
 }
 
@@ -211,7 +181,7 @@ fn notice_other(
     out: &mut [u8],
 ) -> Tally
     requires { length token.now < 2 ^ 32 }
-    ensures { (Same tally result) × ((cells parts : List ℕ) → told (Ok result) cells parts out.new ≡ landed (goes (notice_other number column at token.now (state_of cells parts tally))) out.old tally.at) }
+    ensures { (Same tally result) × ((cells : List ℕ) (parts : List Part) → told (Ok result) cells parts out.new ≡ landed (goes (notice_other number column at token.now (state_of cells parts tally))) out.old tally.at) }
 {
     if lines::is_kern(token) {
         return tally;
@@ -232,7 +202,7 @@ fn notice_other(
 // Notice 2 for each of them.
 fn notice_others(line: &[u8], number: u32, offset: u32, tally: Tally, out: &mut [u8]) -> Tally
     requires { (offset + length line.now < 2 ^ 27) × (length (tokens_of line.now) ≤ 256) }
-    ensures { (Same tally result) × ((cells parts : List ℕ) → told (Ok result) cells parts out.new ≡ landed (goes (notice_others number 1 (placed offset (tokens_of line.now)) (state_of cells parts tally))) out.old tally.at) }
+    ensures { (Same tally result) × ((cells : List ℕ) (parts : List Part) → told (Ok result) cells parts out.new ≡ landed (goes (notice_others number 1 (placed offset (tokens_of line.now)) (state_of cells parts tally))) out.old tally.at) }
 {
     let mut t = tally;
     let mut from = 0;
@@ -257,14 +227,15 @@ fn notice_others(line: &[u8], number: u32, offset: u32, tally: Tally, out: &mut 
 pub fn read_header(
     line: &[u8],
     row: &mut [u16],
-    parts: &mut [u32],
+    parts: &mut [Part; 256],
     tally: Tally,
     number: u32,
     offset: u32,
     out: &mut [u8],
 ) -> Result<Tally, Refusal>
-    requires { (length row.old ≡ 512) × ((length parts.old ≡ 8960) × (offset + length line.now < 2 ^ 27)) }
-    ensures { (cells : List ℕ) → told_row result row.new parts.new out.new ≡ landed (read_header number offset line.now (state_of cells parts.old tally)) out.old tally.at }
+    requires { (length row.old ≡ 512) × (offset + length line.now < 2 ^ 27) }
+    ensures told { (cells : List ℕ) → told_row result row.new parts.new out.new ≡ landed (read_header number offset line.now (state_of cells parts.old tally)) out.old tally.at }
+    ensures few { Few result }
 {
     let exclusive = all_exclusive(line);
     let count = lines::token_count(line);
@@ -282,7 +253,7 @@ pub fn read_header(
     if kerns == 0 {
         return Err(Refusal::NoKern { line: number });
     }
-    fresh_parts(parts, kerns);
+    fresh_parts(&mut parts[..kerns]);
     let begun = Tally {
         active: count,
         parts: kerns,

@@ -11,6 +11,7 @@ use Rattle.token.specs.Outcome.{reported}
 use Rattle.sheet.specs.declared.Notice.{Notice}
 use Rattle.sheet.specs.declared.Span.{Span}
 use Rattle.reading.specs.State.{State, Result, Step, goes}
+use Rattle.reading.specs.declared.Part.{Part}
 use Rattle.reading.specs.Notices.{span_of_token, quiet, keep, notify, notify_signifiers}
 use Rattle.reading.specs.Notes as notes
 use Rattle.state.specs.declared.Tally.{Tally}
@@ -44,7 +45,7 @@ noticed_kept t n bytes old f e = record {
   notes = kept_notes t n bytes;
 }
   where
-    recorded : (cells parts : List ℕ) → kept_records t n bytes ≡ (f (state_of cells parts t)).records
+    recorded : (cells : List ℕ) (parts : List Part) → kept_records t n bytes ≡ (f (state_of cells parts t)).records
     recorded cells parts = kept_records_lem cells parts t n bytes ∙ sym (ap (λ (r : Result). r.records) (e (state_of cells parts t)))
 
 -- the code's answer and buffer, by their equations
@@ -86,7 +87,7 @@ pub inferred_no : (token : List ℕ) (s : Spot) {b : Bool} (t : Tally) (old : Li
 inferred_no token s t old e = rw e (noticed_none t old (λ (st : State). quiet st) (λ st. refl))
 
 -- ---- notices and what comes after them
-module _ {t u : Tally} {old new : List ℕ} {f : State → Result} (h : Noticed t u old new f) (cells parts : List ℕ) where
+module _ {t u : Tally} {old new : List ℕ} {f : State → Result} (h : Noticed t u old new f) (cells : List ℕ) (parts : List Part) where
   pub noticed_goes : going (state_of cells parts u) u.at new ≡ landed (goes (f (state_of cells parts t))) old t.at
   noticed_goes =
       ap (λ (s : State). going s u.at new) (sym (h.state cells parts))

@@ -3,7 +3,7 @@ use mathlib.Core.Path.{◌≡◌, refl, sym, ap, ap₂, ◌∙◌}
 use Prim.Native.Nat.{ℕ, ◌+◌, ◌≤◌, ◌<◌}
 use mathlib.Core.List.{List, [], ◌∷◌, ◌++◌}
 use mathlib.Core.Bool.{Bool, true, false}
-use lib.ListN.{length, set}
+use lib.ListN.{length, take, set}
 use borrow.Author.Tests.{lt-ltb, le-ltb}
 use Rattle.state.proofs.CountLaws.{same_same}
 use Rattle.state.specs.Counts.{Same}
@@ -19,13 +19,13 @@ use Rattle.std.specs.Prelude.{Option, Some, None, Ok, Err}
 use Rattle.token.specs.declared.outcome.Unread.{Unread}
 use Rattle.sheet.specs.Record.{Record}
 use Rattle.sheet.specs.declared.Note.{Note as NoteWritten}
-use Rattle.reading.specs.State.{Part, State, Result, goes, part_at, with_part, with_notes}
+use Rattle.reading.specs.State.{State, Result, goes, part_at, with_part, with_notes}
+use Rattle.reading.specs.declared.Part.{Part}
 use Rattle.reading.specs.Notices.{span_of_token, quiet, notify}
 use Rattle.reading.specs.Notes as notes
 use Rattle.state.specs.declared.Tally.{Tally}
 use Rattle.refusal.specs.declared.Refusal.{Refusal}
 use Rattle.std.specs.Prelude.{Ok, Err, Result as Answered}
-use Rattle.state.specs.Parts.{parts_of}
 use Rattle.state.specs.Lay.{laid, behind}
 use Rattle.state.specs.View.{state_of, Landed, stopped, going, landed}
 use Rattle.state.proofs.LayLaws.{laid_append, behind_append}
@@ -58,10 +58,10 @@ after_landed : (r : Result) (f : State → Result) (out : List ℕ) (at : ℕ)
 after_landed r f out at =
     ap₂ (going (f r.state).state) (behind_append r.records (f r.state).records at) (laid_append r.records (f r.state).records out at)
 
-module _ (cells parts parts' token : List ℕ) (n : Note) (s : Spot) {t u w : Tally} {old mid new : List ℕ} {beam at : ℕ} {written : NoteWritten}
+module _ (cells : List ℕ) (parts parts' : List Part) (token : List ℕ) (n : Note) (s : Spot) {t u w : Tally} {old mid new : List ℕ} {beam at : ℕ} {written : NoteWritten}
     (few : t.notes < 100000) (h : Noticed t u old mid (inferred_notice n.inferred token s))
     {l : Letters} (letters : l ≡ letters_of token)
-    (sounds : parts_of u.parts parts' ≡ set (parts_of u.parts parts) s.part (sounded_by (part_before s u parts) s.voice l.starts l.ends))
+    (sounds : take u.parts parts' ≡ set (take u.parts parts) s.part (sounded_by (part_before s u parts) s.voice l.starts l.ends))
     (beams : beam ≡ beam_number (beam_by (part_before s u parts) s.voice l.starts l.ends).mark)
     (is : written ≡ note_at n s u.bars beam)
     (lays : new ≡ laid mid u.at (note_record written token ∷ []))
@@ -84,7 +84,7 @@ module _ (cells parts parts' token : List ℕ) (n : Note) (s : Spot) {t u w : Ta
         title = u.title;
         composer = u.composer;
         lyricist = u.lyricist;
-      }) (sounds ∙ ap (set (parts_of u.parts parts) s.part) (sounded_by_lem (part_before s u parts) s.voice token letters))
+      }) (sounds ∙ ap (set (take u.parts parts) s.part) (sounded_by_lem (part_before s u parts) s.voice token letters))
 
   place_is : w.at ≡ behind u.at (note_result token n s (state_of cells parts u)).records
   place_is = ap (λ (x : Tally). x.at) counts ∙ ends ∙ ap (λ (r : Record). behind u.at (r ∷ [])) record_is
@@ -123,12 +123,12 @@ pub quiet_step : (st : State) (out : List ℕ) (at : ℕ) → going st at out �
 unfolding laid behind
 quiet_step st out at = refl
 
-pub null_step : (cells parts token out : List ℕ) (inferred : Option Value) (s : Spot) (t : Tally) {b : Bool} → b ≡ is_null token → b ≡ true
+pub null_step : (cells : List ℕ) (parts : List Part) (token out : List ℕ) (inferred : Option Value) (s : Spot) (t : Tally) {b : Bool} → b ≡ is_null token → b ≡ true
     → going (state_of cells parts t) t.at out ≡ landed (token_step token inferred s (state_of cells parts t)) out t.at
 unfolding token_step laid behind
 null_step cells parts token out inferred s t e q = sym (rw (sym e ∙ q))
 
-module _ (cells parts token : List ℕ) (inferred : Option Value) (s : Spot) {t u : Tally} {old new : List ℕ} {b : Bool} {scan : Scan} {o : Outcome}
+module _ (cells : List ℕ) (parts : List Part) (token : List ℕ) (inferred : Option Value) (s : Spot) {t u : Tally} {old new : List ℕ} {b : Bool} {scan : Scan} {o : Outcome}
     (null : b ≡ is_null token) (read : b ≡ false) (scans : scan ≡ scan_of token)
     (h : Noticed t u old new (notes.signify (reported token) s.line s.column))
     (outcome : o ≡ outcome_of scan inferred) where
@@ -162,7 +162,7 @@ module _ (cells parts token : List ℕ) (inferred : Option Value) (s : Spot) {t 
       ∙ ap (λ (x : Outcome). landed (notes.by_outcome x s.part s.voice s.line s.column (token_at s token) (state_of cells parts u)) new u.at) (sym q))
 
 -- a token of the usual shape comes to its note, whatever length its peers give; of unknown marks no notice is kept any more
-pub plain_step : (cells parts token : List ℕ) (inferred : Option Value) (s : Spot) (t : Tally) (old : List ℕ) {p : Plain} {l : Landed} → PlainToken token p
+pub plain_step : (cells : List ℕ) (parts : List Part) (token : List ℕ) (inferred : Option Value) (s : Spot) (t : Tally) (old : List ℕ) {p : Plain} {l : Landed} → PlainToken token p
     → (p.unknown ≡ true → 1024 ≤ t.notices)
     → l ≡ landed (notes.add_note s.part s.voice s.line s.column (token_at s token) p.note (state_of cells parts t)) old t.at
     → l ≡ landed (token_step token inferred s (state_of cells parts t)) old t.at

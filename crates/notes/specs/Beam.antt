@@ -2,7 +2,7 @@
 use Rattle.std.specs.Prelude.{ℕ, Bool, true, false, get_or, set}
 use Rattle.notation.specs.Beam.{beamed}
 use Rattle.notation.specs.declared.beam.Beamed.{Beamed}
-use Rattle.reading.specs.State.{Part}
+use Rattle.reading.specs.declared.Part.{Part}
 
 -- the mark of a note by whether L and J stand in it, and whether the beam is held after it: "beams `apply_beam`", per part and voice
 abbrev pub beam_by : Part → ℕ → Bool → Bool → Beamed

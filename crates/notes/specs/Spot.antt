@@ -8,6 +8,7 @@ use Rattle.token.specs.Outcome.{outcome_of, reported}
 use Rattle.token.specs.declared.outcome.Note.{Note}
 use Rattle.sheet.specs.declared.Note.{Note as NoteWritten}
 use Rattle.reading.specs.State.{State, Result, Step, goes}
+use Rattle.reading.specs.declared.Part.{Part}
 use Rattle.reading.specs.Notices.{Token, span_of_token, quiet, notify}
 use Rattle.reading.specs.Notes as notes
 use Rattle.state.specs.declared.Tally.{Tally}
@@ -71,9 +72,9 @@ Kept t (Err r) = Unit {0}
 
 -- notices of a definition as the code leaves them: the counts were t and are u, the buffer was old and is new
 pub record Noticed (t u : Tally) (old new : List ℕ) (f : State → Result) : Type 0 where
-  pub state : (cells parts : List ℕ) → (f (state_of cells parts t)).state ≡ state_of cells parts u
-  pub at : (cells parts : List ℕ) → u.at ≡ behind t.at (f (state_of cells parts t)).records
-  pub out : (cells parts : List ℕ) → new ≡ laid old t.at (f (state_of cells parts t)).records
+  pub state : (cells : List ℕ) (parts : List Part) → (f (state_of cells parts t)).state ≡ state_of cells parts u
+  pub at : (cells : List ℕ) (parts : List Part) → u.at ≡ behind t.at (f (state_of cells parts t)).records
+  pub out : (cells : List ℕ) (parts : List Part) → new ≡ laid old t.at (f (state_of cells parts t)).records
   pub same : Same t u
   pub notes : u.notes ≡ t.notes
 
@@ -82,9 +83,8 @@ abbrev pub inferred_notice : Bool → List ℕ → Spot → State → Result
 inferred_notice inferred token s st = cond inferred (notify 20 s.line s.column (span_of_token (token_at s token)) st) (quiet st)
 
 -- a token is short, and its spot is one of a part and of a voice
-pub record Sited (token parts : List ℕ) (s : Spot) (t : Tally) : Type 0 where
+pub record Sited (token : List ℕ) (s : Spot) (t : Tally) : Type 0 where
   pub short : length token < 2 ^ 27
-  pub parts_long : length parts ≡ 8960
   pub parts_few : t.parts ≤ 256
   pub bars_few : t.bars ≤ 100000
   pub part_in : s.part < t.parts

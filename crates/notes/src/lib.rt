@@ -1,17 +1,15 @@
 #![tactic(auto)]
 
 // A token of a kern line: its notices and its NOTE.
-ghost use Rattle.std.specs.Prelude.{◌≡◌, cond, List, ℕ, ◌+◌, ◌^◌, ◌≤◌, ◌<◌, length, get_or, set};
+ghost use Rattle.std.specs.Prelude.{◌≡◌, List, ℕ, ◌^◌, ◌≤◌, ◌<◌, length};
 ghost use Rattle.notation.specs.Beam.{beam_number};
 ghost use Rattle.token.specs.Scan.{scan_of};
 ghost use Rattle.items.specs.Items.{items};
 ghost use Rattle.token.specs.Token.{articulations_of};
 ghost use Rattle.token.specs.Outcome.{reported, note_pitches};
 ghost use Rattle.plain.specs.Plain.{PlainToken};
-ghost use Rattle.reading.specs.State.{fresh_part};
 ghost use Rattle.reading.specs.Notices.{notify, span_of_token};
-ghost use Rattle.reading.specs.Notes.{bit, flags_of, signify, add_note};
-ghost use Rattle.state.specs.Parts.{part_of, parts_of};
+ghost use Rattle.reading.specs.Notes.{flags_of, signify, add_note};
 ghost use Rattle.state.specs.View.{state_of, landed, told};
 ghost use Rattle.notes.specs.Beam.{beam_by, sounded_by};
 ghost use Rattle.notes.specs.Plain.{PlainWritten};
@@ -20,6 +18,7 @@ ghost use Rattle.notes.specs.Spot.{token_at, token_step, note_at, with_note, Kep
 use duration::Value;
 use notation::beam::Beam;
 use plain::Plain;
+use reading::Part;
 use refusal::Refusal;
 use sheet::Span;
 use state::Tally;
@@ -38,72 +37,31 @@ pub struct Spot {
 
 // ---- the beam
 
-// 1 or 0.
-fn number_of(b: bool) -> u32
-    ensures { result ≡ cond b 1 0 }
-{
-    if b {
-        return 1;
-    }
-    0
-}
-
 // A note in a voice of a part: its beam's number. The part keeps the voice's beam, and that it has a note in the bar.
-fn sound(cells: &mut [u32], voice: usize, starts: bool, ends: bool) -> u8
-    requires { (length cells.old ≡ 35) × (voice < 4) }
-    ensures { (part_of cells.new ≡ sounded_by (part_of cells.old) voice starts ends) × (result ≡ beam_number (beam_by (part_of cells.old) voice starts ends).mark) }
+fn sound(part: &mut Part, voice: usize, starts: bool, ends: bool) -> u8
+    requires { voice < 4 }
+    ensures { (part.new ≡ sounded_by part.old voice starts ends) × (result ≡ beam_number (beam_by part.old voice starts ends).mark) }
 {
-    let i = 6 + voice;
-    let beam = Beam {
-        held: cells[i] == 1,
-    };
-    let next = beam.next(starts, ends);
-    cells[i] = number_of(next.state.held);
-    cells[10] = 1;
+    let held = &mut part.beams[voice];
+    let next = Beam { held: *held }.next(starts, ends);
+    *held = next.state.held;
+    part.noted = true;
     u8::from(next.mark)
 }
 
-// The same in one of `count` parts.
-fn sound_part(
-    parts: &mut [u32],
-    count: usize,
-    part: usize,
-    voice: usize,
-    starts: bool,
-    ends: bool,
-) -> u8
-    requires { (length parts.old ≡ 8960) × ((count ≤ 256) × ((part < count) × (voice < 4))) }
-    ensures { (parts_of count parts.new ≡ set (parts_of count parts.old) part (sounded_by (get_or (parts_of count parts.old) part (fresh_part part)) voice starts ends)) × (result ≡ beam_number (beam_by (get_or (parts_of count parts.old) part (fresh_part part)) voice starts ends).mark) }
-{
-    let a = part * 35;
-    let e = a + 35;
-    sound(&mut parts[a..e], voice, starts, ends)
-}
-
 // ---- the NOTE
-
-// A flag's weight, or 0.
-fn bit(b: bool, weight: u8) -> u8
-    ensures { (result ≡ bit b weight) × (result ≤ weight) }
-{
-    if b {
-        return weight;
-    }
-    0
-}
 
 // The flags of a note.
 fn flags_of(n: Note) -> u8
     ensures { result ≡ flags_of n }
 {
-    let rest = bit(n.rest, 1);
-    let ties = bit(n.ties, 2);
-    let tied = bit(n.tied, 4);
-    let slurs = bit(n.slurs, 8);
-    let slurred = bit(n.slurred, 16);
-    let grace = bit(0 < n.grace, 32);
-    let slash = bit(n.grace == 2, 64);
-    rest + ties + tied + slurs + slurred + grace + slash
+    u8::from(n.rest)
+        + 2 * u8::from(n.ties)
+        + 4 * u8::from(n.tied)
+        + 8 * u8::from(n.slurs)
+        + 16 * u8::from(n.slurred)
+        + 32 * u8::from(0 < n.grace)
+        + 64 * u8::from(n.grace == 2)
 }
 
 // The fixed bytes of a NOTE, behind so many closings.
@@ -191,25 +149,19 @@ fn add_note(
     token: &[u8],
     n: Note,
     spot: Spot,
-    parts: &mut [u32],
+    parts: &mut [Part; 256],
     tally: Tally,
     out: &mut [u8],
 ) -> Result<Tally, Refusal>
-    requires { Sited token.now parts.old spot tally × ((n.pitches ≡ length (note_pitches token.now)) × (n.articulations ≡ length (articulations_of (items token.now)))) }
+    requires { Sited token.now spot tally × ((n.pitches ≡ length (note_pitches token.now)) × (n.articulations ≡ length (articulations_of (items token.now)))) }
     ensures { ((cells : List ℕ) → told result cells parts.new out.new ≡ landed (add_note spot.part spot.voice spot.line spot.column (token_at spot token.now) n (state_of cells parts.old tally)) out.old tally.at) × Kept tally result }
 {
     let room = tally.notes < 100000;
     if room {
         let t = notify_inferred(token, n.inferred, spot, tally, out);
         let letters = notation::beam::beam_letters(token);
-        let beam = sound_part(
-            parts,
-            t.parts,
-            spot.part,
-            spot.voice,
-            letters.starts,
-            letters.ends,
-        );
+        let part = &mut parts[spot.part];
+        let beam = sound(part, spot.voice, letters.starts, letters.ends);
         let note = note_at(n, spot, t.bars, beam);
         let at = writing::write_note(out, t.at, note, token, None);
         return Ok(with_note(t, at));
@@ -222,11 +174,11 @@ pub fn read_token(
     token: &[u8],
     inferred: Option<Value>,
     spot: Spot,
-    parts: &mut [u32],
+    parts: &mut [Part; 256],
     tally: Tally,
     out: &mut [u8],
 ) -> Result<Tally, Refusal>
-    requires { Sited token.now parts.old spot tally }
+    requires { Sited token.now spot tally }
     ensures { ((cells : List ℕ) → told result cells parts.new out.new ≡ landed (token_step token.now inferred spot (state_of cells parts.old tally)) out.old tally.at) × Kept tally result }
 {
     if lines::is_null(token) {
@@ -246,15 +198,15 @@ pub fn write_plain(
     token: &[u8],
     p: Plain,
     spot: Spot,
-    parts: &mut [u32],
+    parts: &mut [Part; 256],
     tally: Tally,
     at: usize,
     out: &mut [u8],
 ) -> usize
-    requires { Sited token.now parts.old spot tally × PlainToken token.now p }
+    requires { Sited token.now spot tally × PlainToken token.now p }
     ensures { PlainWritten token.now p spot tally at parts.old out.old parts.new out.new result }
 {
-    let beam = sound_part(parts, tally.parts, spot.part, spot.voice, p.starts, p.ends);
+    let beam = sound(&mut parts[spot.part], spot.voice, p.starts, p.ends);
     let note = note_at(p.note, spot, tally.bars, beam);
     writing::write_note(out, at, note, token, Some(p.tone))
 }

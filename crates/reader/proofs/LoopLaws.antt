@@ -15,7 +15,8 @@ use Rattle.lines.specs.declared.Kind.TheVariants.{Empty, Reference, Comment, Sta
 use Rattle.lines.proofs.PieceLaws.{Piece, piece_at_lem}
 use Rattle.place.specs.declared.Place.{Place}
 use Rattle.spines.specs.Cells.{row_of, spine_of}
-use Rattle.reading.specs.State.{Part, State, Result, Step, refused as refused-step, goes, ends, start}
+use Rattle.reading.specs.State.{State, Result, Step, refused as refused-step, goes, ends, start}
+use Rattle.reading.specs.declared.Part.{Part}
 use Rattle.reading.specs.Records.{read_line, is_record}
 use Rattle.state.specs.declared.Tally.{Tally}
 use Rattle.std.specs.Prelude.{Ok, Err, Result as Answered}
@@ -23,10 +24,8 @@ use Rattle.refusal.specs.Numbers.{number_of, line_of, figure_of}
 use Rattle.refusal.specs.declared.Refusal.{Refusal}
 use Rattle.state.specs.declared.Flow.{Flow}
 use Rattle.state.specs.declared.Flow.TheVariants.{Goes, Ends}
-use Rattle.state.specs.Parts.{rows, parts_of}
 use Rattle.state.specs.View.{state_of, Landed, stopped, going, ending, landed, told_flow}
-use Rattle.state.specs.Ready.{Ready, Steady}
-use Rattle.state.proofs.PartLaws.{parts_length}
+use Rattle.state.specs.Ready.{FewFlow, Ready, Steady}
 use Rattle.extent.proofs.StateLaws.{Held, Holds, Passes, widen}
 use Rattle.extent.proofs.RecordLaws.{line_holds}
 use Rattle.extent.proofs.TextLaws.{start_holds}
@@ -39,26 +38,26 @@ use Rattle.reader.specs.Landing.{is_passed, refused, finish_at, line_at, lines_a
 use Rattle.lines.proofs.TrimLaws.{content_short}
 
 -- row, parts and buffer at the line that begins at `from`, behind so many lines
-pub record Reading (text out₀ row parts out : List ℕ) (from number : ℕ) (begun : Bool) (t : Tally) : Type 0 where
+pub record Reading (text out₀ row : List ℕ) (parts : List Part) (out : List ℕ) (from number : ℕ) (begun : Bool) (t : Tally) : Type 0 where
   pub same : lines_at false 0 0 (lines_of text) start 0 out₀
       ≡ lines_at begun number from (pieces 10 from text) (state_of (take t.active row) parts t) t.at out
   pub firm : Firmly (state_of (take t.active row) parts t)
   pub holds : Holds 0 0 (state_of (take t.active row) parts t)
   pub out_long : length out ≡ length out₀
-  pub parts_long : length parts ≡ 8960
+  pub parts_few : t.parts ≤ 256
   pub short : length text ≤ 67108864
   pub inside : from ≤ length text + 1
   pub counted : number ≤ from
 
-pub reading_first : {text out row parts : List ℕ} → length text ≤ 67108864 → length parts ≡ 8960
+pub reading_first : {text out row : List ℕ} {parts : List Part} → length text ≤ 67108864
     → Reading text out row parts out 0 0 false no_tally
-unfolding rows parts_of row_of
-reading_first {text} {out} {row} {parts} h p = record {
+unfolding row_of
+reading_first {text} {out} {row} {parts} h = record {
   same = ap (λ (ls : List (List ℕ)). lines_at false 0 0 ls start 0 out) (sym (all_pieces 10 text));
   firm = start_firm;
   holds = widen (omega arith) (omega arith) start_holds;
   out_long = refl;
-  parts_long = p;
+  parts_few = omega arith;
   short = h;
   inside = omega arith;
   counted = omega arith;
@@ -95,7 +94,7 @@ unpaid h = record {
 }
 
 -- a line that does nothing leaves the counts and the buffer
-passed_told : (begun : Bool) (number offset : ℕ) (line out row parts : List ℕ) (t : Tally) (kind : Kind) → kind ≡ kind_of line → is_passed kind ≡ true
+passed_told : (begun : Bool) (number offset : ℕ) (line out row : List ℕ) (parts : List Part) (t : Tally) (kind : Kind) → kind ≡ kind_of line → is_passed kind ≡ true
     → told_flow (Ok (Goes t)) row parts out ≡ landed (read_line begun number offset line (state_of (take t.active row) parts t)) out t.at
 passed_told begun number offset line out row parts t Empty k p = quiet_line begun (stopped 0 0 0) line out (take t.active row) parts t number offset k (inl refl)
 passed_told begun number offset line out row parts t Reference k p = clash cc
@@ -114,7 +113,7 @@ passed_begun false Star p = clash cc
 passed_begun false Bar p = clash cc
 passed_begun false Data p = clash cc
 
-module _ {text out₀ row parts out : List ℕ} {from number : ℕ} {begun : Bool} {t : Tally}
+module _ {text out₀ row : List ℕ} {parts : List Part} {out : List ℕ} {from number : ℕ} {begun : Bool} {t : Tally}
     (inv : Reading text out₀ row parts out from number begun t) where
   -- no line is left
   pub reading_past : length text < from
@@ -133,13 +132,12 @@ module _ {text out₀ row parts out : List ℕ} {from number : ℕ} {begun : Boo
       let b : t.active ≤ 256 = omega (arith, steady.row_short, length-take t.active row) in
       (b, length-take-le t.active row (omega arith))
 
-  pub ready : length row ≡ 512 → Ready (take t.active row) parts t
+  pub ready : length row ≡ 512 → Ready (take t.active row) t
   ready row_long = record {
     cells_long = omega (arith, (active_few row_long).0, (active_few row_long).1);
-    parts_long = inv.parts_long;
-    parts_few = omega (arith, steady.parts_few, parts_length t.parts parts);
+    parts_few = inv.parts_few;
     bars_few = steady.bars_few;
-    within = λ (j p v : ℕ) e. omega (arith, steady.within j p v e, parts_length t.parts parts);
+    within = λ (j p v : ℕ) e. omega (arith, steady.within j p v e, length-take t.parts parts);
   }
 
   -- the line that begins at `from` and ends at e
@@ -162,7 +160,7 @@ module _ {text out₀ row parts out : List ℕ} {from number : ℕ} {begun : Boo
         (lines_at (begun || is_record (kind_of line_here)) (number + 1) k (pieces 10 (e + 1) text))) next
 
     -- the step that the code answered, with the row, the parts and the buffer that it left
-    module _ (s : Answered Flow Refusal) (row' parts' out' : List ℕ)
+    module _ (s : Answered Flow Refusal) (row' : List ℕ) (parts' : List Part) (out' : List ℕ)
         (so : told_flow s row' parts' out' ≡ landed (read_line begun (number + 1) from line_here (state_of (take t.active row) parts t)) out t.at) where
       told_decides : lines_at false 0 0 (lines_of text) start 0 out₀
           ≡ line_at (told_flow s row' parts' out') (lines_at (begun || is_record (kind_of line_here)) (number + 1) (e + 1) (pieces 10 (e + 1) text))
@@ -184,9 +182,9 @@ module _ {text out₀ row parts out : List ℕ} {from number : ℕ} {begun : Boo
           ∙ ap (λ (x : Answered Flow Refusal). line_at (told_flow x row' parts' out') (lines_at (begun || is_record (kind_of line_here)) (number + 1) (e + 1) (pieces 10 (e + 1) text))) is
 
       -- it goes on
-      pub reading_turn : (u : Tally) → s ≡ Ok (Goes u) → length out' ≡ length out → length parts' ≡ 8960
+      pub reading_turn : (u : Tally) → s ≡ Ok (Goes u) → FewFlow s → length out' ≡ length out
           → Reading text out₀ row' parts' out' (e + 1) (number + 1) (begun || is_record (kind_of line_here)) u
-      reading_turn u is lo p =
+      reading_turn u is few lo =
           let at : Piece 10 text from e = piece_at_lem on ends_at in
           let went : going (state_of (take u.active row') parts' u) u.at out'
           ≡ landed (read_line begun (number + 1) from line_here (state_of (take t.active row) parts t)) out t.at
@@ -202,7 +200,7 @@ module _ {text out₀ row parts out : List ℕ} {from number : ℕ} {begun : Boo
             firm = subst Firmly step.2 (line_firm begun (number + 1) from line_here (state_of (take t.active row) parts t) step.0 inv.firm step.1);
             holds = subst (Holds 0 0) step.2 (unpaid passes);
             out_long = lo ∙ inv.out_long;
-            parts_long = p;
+            parts_few = subst FewFlow is few;
             short = inv.short;
             inside = omega (arith, at.high);
             counted = omega (arith, inv.counted, at.low);
@@ -221,14 +219,14 @@ module _ {text out₀ row parts out : List ℕ} {from number : ℕ} {begun : Boo
         let long : length (take (e - from) (drop from text)) ≡ e - from = length-take-le (e - from) (drop from text) (omega (arith, at.high, length-drop from text)) in
         omega (arith, at.low, at.high, content_short (take (e - from) (drop from text)), ap length is_line)
 
-    pub here : length row ≡ 512 → Here here-line row parts t past.line from
+    pub here : length row ≡ 512 → Here here-line row t past.line from
     here row_long = record {
       under = record { ready = ready row_long; few = (active_few row_long).0; row_long = row_long };
       short = omega (arith, line_short, inv.short);
       numbered = omega (arith, inv.counted, inv.short, on, moved.1);
     }
 
-    module _ (s : Answered Flow Refusal) (row' parts' out' : List ℕ)
+    module _ (s : Answered Flow Refusal) (row' : List ℕ) (parts' : List Part) (out' : List ℕ)
         (so : told_flow s row' parts' out' ≡ landed (read_line begun past.line from here-line (state_of (take t.active row) parts t)) out t.at) where
       so_numbered : told_flow s row' parts' out' ≡ landed (read_line begun (number + 1) from here-line (state_of (take t.active row) parts t)) out t.at
       so_numbered = so ∙ ap (λ (k : ℕ). landed (read_line begun k from here-line (state_of (take t.active row) parts t)) out t.at) moved.1
@@ -244,8 +242,8 @@ module _ {text out₀ row parts out : List ℕ} {from number : ℕ} {begun : Boo
           → lines_at false 0 0 (lines_of text) start 0 out₀ ≡ finish_at true (state_of (take u.active row') parts' u) u.at out'
       ends_here u is = reading_ends on ends_at s row' parts' out' so_here u is
 
-      pub ends_small : (u : Tally) → s ≡ Ok (Ends u) → length parts' ≡ 8960 → (length parts' ≡ 8960) × ((u.parts ≤ 256) × (u.bars ≤ 100000))
-      ends_small u is p =
+      pub ends_small : (u : Tally) → s ≡ Ok (Ends u) → FewFlow s → (u.parts ≤ 256) × (u.bars ≤ 100000)
+      ends_small u is few =
           let went : ending (state_of (take u.active row') parts' u) u.at out'
           ≡ landed (read_line begun (number + 1) from here-line (state_of (take t.active row) parts t)) out t.at
           = ap (λ (x : Answered Flow Refusal). told_flow x row' parts' out') (sym is) ∙ so_numbered in
@@ -254,22 +252,22 @@ module _ {text out₀ row parts out : List ℕ} {from number : ℕ} {begun : Boo
           = subst (λ (x : Step). Passes (0 + 5 * length here-line) 0 x) step.1
           (line_holds begun (number + 1) from here-line (state_of (take t.active row) parts t) inv.holds) in
           let held : Holds 0 0 (state_of (take u.active row') parts' u) = subst (Holds 0 0) step.2 (unpaid passes) in
-          (p, (omega (arith, held.parts_few, parts_length u.parts parts'), omega (arith, held.closed, held.notes_few)))
+          (subst FewFlow is few, omega (arith, held.closed, held.notes_few))
 
-      pub goes_here : (u : Tally) → s ≡ Ok (Goes u) → length out' ≡ length out → length parts' ≡ 8960 → {begun' : Bool} → begun' ≡ (begun || is_record kind)
+      pub goes_here : (u : Tally) → s ≡ Ok (Goes u) → FewFlow s → length out' ≡ length out → {begun' : Bool} → begun' ≡ (begun || is_record kind)
           → Reading text out₀ row' parts' out' past.at past.line begun' u
-      goes_here u is lo p b =
+      goes_here u is few lo b =
           let next : past.at - 1 + 1 ≡ past.at = omega (arith, moved.0) in
           subst (λ (x : Bool). Reading text out₀ row' parts' out' past.at past.line x u)
           (sym (b ∙ ap (λ (l : Kind). begun || is_record l) (is-kind ∙ ap kind_of is_line)))
           (subst (λ (k : ℕ). Reading text out₀ row' parts' out' past.at k (begun || is_record (kind_of (without_crs (take (past.at - 1 - from) (drop from text))))) u) (sym moved.1)
           (subst (λ (k : ℕ). Reading text out₀ row' parts' out' k (number + 1) (begun || is_record (kind_of (without_crs (take (past.at - 1 - from) (drop from text))))) u) next
-          (reading_turn on ends_at s row' parts' out' so_here u is lo p)))
+          (reading_turn on ends_at s row' parts' out' so_here u is few lo)))
 
     -- a line that does nothing
     pub passed_here : is_passed kind ≡ true → Reading text out₀ row parts out past.at past.line begun t
     passed_here p =
-        goes_here (Ok (Goes t)) row parts out (passed_told begun past.line from here-line out row parts t kind is-kind p) t refl refl inv.parts_long (passed_begun begun kind p)
+        goes_here (Ok (Goes t)) row parts out (passed_told begun past.line from here-line out row parts t kind is-kind p) t refl inv.parts_few refl (passed_begun begun kind p)
 
-  pub at_end : (length parts ≡ 8960) × ((t.parts ≤ 256) × (t.bars ≤ 100000))
-  at_end = (inv.parts_long, (omega (arith, steady.parts_few, parts_length t.parts parts), steady.bars_few))
+  pub at_end : (t.parts ≤ 256) × (t.bars ≤ 100000)
+  at_end = (inv.parts_few, steady.bars_few)

@@ -17,6 +17,7 @@ ghost use Rattle.reader.specs.Told.{finished_by, Tells, no_tally};
 ghost use Rattle.reader.specs.Measured.{Measured};
 
 use lines::Kind;
+use reading::Part;
 use refusal::Refusal;
 use sheet::{Head, Span};
 use state::{Flow, Tally};
@@ -53,11 +54,11 @@ fn no_tally() -> Tally
 // The end of the text: questions 11 and 12, the last closing, the parts and the end.
 fn finish_text(
     begun: bool,
-    parts: &mut [u32],
+    parts: &mut [Part; 256],
     tally: Tally,
     out: &mut [u8],
 ) -> Result<Written, Refusal>
-    requires { (length parts.old ≡ 8960) × ((tally.parts ≤ 256) × (tally.bars ≤ 100000)) }
+    requires { (tally.parts ≤ 256) × (tally.bars ≤ 100000) }
     ensures { (cells : List ℕ) → finished_by result out.new ≡ finish_at begun (state_of cells parts.old tally) tally.at out.old }
 {
     if !begun {
@@ -104,10 +105,10 @@ fn read_lines(
     row: &mut [u16; 512],
     new: &mut [u16; 512],
     masks: &mut [u8; 8192],
-    parts: &mut [u32],
+    parts: &mut [Part; 256],
     out: &mut [u8],
 ) -> Result<Written, Refusal>
-    requires { (length text.now ≤ 67108864) × (length parts.old ≡ 8960) }
+    requires { length text.now ≤ 67108864 }
     ensures { finished_by result out.new ≡ lines_at false 0 0 (lines_of text.now) start 0 out.old }
 {
     let mut tally = no_tally();
@@ -156,7 +157,7 @@ fn run(text: &[u8], out: &mut [u8]) -> Result<Written, Refusal>
     let mut row = [0u16; 512];
     let mut new = [0u16; 512];
     let mut masks = [0u8; 8192];
-    let mut parts = [0u32; 8960];
+    let mut parts = [state::fresh_part(0); 256];
     read_lines(text, &mut row, &mut new, &mut masks, &mut parts, out)
 }
 

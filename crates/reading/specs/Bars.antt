@@ -4,7 +4,8 @@ use Rattle.notation.specs.Barline.{barlines_of, barline_number}
 use Rattle.paths.specs.Row.{Spine, line, branch, outside}
 use Rattle.sheet.specs.Record.{BAR}
 use Rattle.sheet.specs.declared.Bar.{Bar}
-use Rattle.reading.specs.State.{Part, State, Result, with_parts, with_bars}
+use Rattle.reading.specs.State.{State, Result, with_parts, with_bars}
+use Rattle.reading.specs.declared.Part.{Part}
 use Rattle.reading.specs.Notices.{Token, quiet}
 
 unfoldable pub any_noted : List Part → Bool

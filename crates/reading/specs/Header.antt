@@ -9,7 +9,8 @@ use Rattle.paths.specs.Text.{header_row}
 use Rattle.repair.specs.Repair.{each}
 use Rattle.sheet.specs.Record.{span_of}
 use Rattle.sheet.specs.declared.Span.{Span}
-use Rattle.reading.specs.State.{Part, State, Result, Step, refused, goes, fresh_part, with_row, with_parts, with_title, with_composer, with_lyricist}
+use Rattle.reading.specs.State.{State, Result, Step, refused, goes, fresh_part, with_row, with_parts, with_title, with_composer, with_lyricist}
+use Rattle.reading.specs.declared.Part.{Part}
 use Rattle.reading.specs.Notices.{Token, placed, span_of_token, quiet, after, keep, notify}
 
 -- ---- "`!!!` lines": "OTL, COM, LYR set title, composer, lyricist, the last one winning; other keys give notice 1"

@@ -17,7 +17,8 @@ use Rattle.paths.specs.Voices.{Outcome, next, mixed, voiceless, wide, step_row}
 use Rattle.sheet.specs.Record.{span_of}
 use Rattle.sheet.specs.declared.Bar.{Bar}
 use Rattle.sheet.specs.declared.Span.{Span}
-use Rattle.reading.specs.State.{Part, State, Result, Step, refused, goes, part_at, with_part, with_row, with_tempo}
+use Rattle.reading.specs.State.{State, Result, Step, refused, goes, part_at, with_part, with_row, with_tempo}
+use Rattle.reading.specs.declared.Part.{Part}
 use Rattle.reading.specs.Notices.{Token, span_of_token, quiet, after, notify}
 
 -- ---- what an interpretation sets, as `apply_interpretation` sets it

@@ -1,23 +1,13 @@
 -- What is known between two lines of a text.
-use Rattle.std.specs.Prelude.{ℕ, Bool, false, List, [], ◌∷◌, get_or, set}
+use Rattle.std.specs.Prelude.{ℕ, false, List, [], ◌∷◌, get_or, set}
 use Rattle.sheet.specs.Record.{Record}
 use Rattle.sheet.specs.declared.Bar.{Bar}
 use Rattle.sheet.specs.declared.Span.{Span}
 use Rattle.paths.specs.Row.{Spine}
+use Rattle.reading.specs.declared.Part.{Part}
 
 abbrev pub empty : Span
 empty = record { at = 0; len = 0 }
-
--- a part: its names, its mode, the beams of its four voices, whether it has a note in the bar, the bar so far, and bar 1 as it was closed
-pub record Part : Type 0 where
-  pub named : ℕ
-  pub name : Span
-  pub short : Span
-  pub mode : ℕ
-  pub beams : List Bool
-  pub noted : Bool
-  pub current : Bar
-  pub first : Bar
 
 -- "Measure::empty a bar with all unset, barlines Normal"
 abbrev pub blank_bar : ℕ → Bar

@@ -4,7 +4,8 @@ use Rattle.slices.specs.Store.{stored}
 use Rattle.utf8.specs.Utf8.{utf8_length}
 use Rattle.lines.specs.Lines.{lines_of, without_crs, kind_of}
 use Rattle.sheet.specs.Record.{Record, PART, END, head_bytes, records_bytes}
-use Rattle.reading.specs.State.{Part, State, Result, refused, goes, ends, start, fresh_part}
+use Rattle.reading.specs.State.{State, Result, refused, goes, ends, start, fresh_part}
+use Rattle.reading.specs.declared.Part.{Part}
 use Rattle.reading.specs.Bars.{any_noted, closing}
 use Rattle.reading.specs.Notices.{quiet}
 use Rattle.reading.specs.Records.{read_line, is_record}

@@ -1,6 +1,6 @@
 -- A record by its kind: from the tokens that the code reads to those of the repaired record.
 use mathlib.Core.Path.{◌≡◌, refl, sym, ap, ◌∙◌}
-use Prim.Native.Nat.{ℕ}
+use Prim.Native.Nat.{ℕ, ◌≤◌}
 use native.Mathlib.Omega.{arith}
 use mathlib.Core.List.{List}
 use lib.ListN.{length, take}
@@ -12,6 +12,7 @@ use Rattle.lines.specs.declared.Kind.{Kind}
 use Rattle.lines.specs.declared.Kind.TheVariants.{Empty, Reference, Comment, Star, Bar, Data}
 use Rattle.repair.specs.Repair.{first_of, repaired}
 use Rattle.reading.specs.State.{goes}
+use Rattle.reading.specs.declared.Part.{Part}
 use Rattle.reading.specs.Notices.{placed, quiet}
 use Rattle.reading.specs.Star.{read_star}
 use Rattle.reading.specs.Bars.{read_bar}
@@ -19,7 +20,8 @@ use Rattle.reading.specs.Notes.{read_data}
 use Rattle.reading.specs.Records.{by_kind}
 use Rattle.state.specs.declared.Tally.{Tally}
 use Rattle.refusal.specs.declared.Refusal.{Refusal}
-use Rattle.std.specs.Prelude.{Ok, Result, ◌⊎◌}
+use Rattle.std.specs.Prelude.{Ok, Err, Result, ◌⊎◌}
+use Rattle.state.specs.Ready.{Few}
 use Rattle.std.proofs.Common.{inl, inr}
 use Rattle.state.specs.View.{state_of, Landed, landed, told, told_row}
 use Rattle.stars.specs.Columns.{filled}
@@ -30,8 +32,12 @@ use Rattle.state.specs.Counts.{with_active}
 use Rattle.records.proofs.RepairLaws.{filled_with, star_tokens, bar_tokens, data_tokens}
 use Rattle.records.proofs.OutcomeLaws.{kept_row, quiet_told}
 
-pub row_length : {row parts : List ℕ} {t : Tally} → Under row parts t → length (take t.active row) ≡ t.active
-row_length {row} {parts} {t} u = length-take-le t.active row (omega (arith, u.few, u.row_long))
+pub row_length : {row : List ℕ} {t : Tally} → Under row t → length (take t.active row) ≡ t.active
+row_length {row} {t} u = length-take-le t.active row (omega (arith, u.few, u.row_long))
+
+pub kept_few : (t : Tally) (s : Result Tally Refusal) → t.parts ≤ 256 → Kept t s → Few s
+kept_few t (Ok u) h k = omega (arith, k.parts)
+kept_few t (Err r) h k = tt
 
 -- filled as each kind is
 filled_stars : (n : ℕ) (ts : List (List ℕ)) → filled n ts ≡ filled_with (ascii "*") n ts
@@ -42,7 +48,7 @@ filled_bars_lem : (n : ℕ) (ts : List (List ℕ)) → filled_bars n ts ≡ fill
 unfolding filled_bars
 filled_bars_lem n ts = refl
 
-module _ {row parts : List ℕ} {t : Tally} (u : Under row parts t) (line : List ℕ) (even : Evenly t.active line) where
+module _ (parts : List Part) {row : List ℕ} {t : Tally} (u : Under row t) (line : List ℕ) (even : Evenly t.active line) where
   abbrev cells : List ℕ
   cells = take t.active row
 
@@ -59,7 +65,7 @@ module _ {row parts : List ℕ} {t : Tally} (u : Under row parts t) (line : List
   data_taken k = ap (λ (n : ℕ). take n ts) (row_length u) ∙ sym (data_tokens t.active line even.0 even.1 k).0
 
   -- what the three readings say
-  pub bar_told : (closed v : Tally) (parts' out' out : List ℕ) → kind_of line ≡ Bar → v ≡ with_active closed t.active
+  pub bar_told : (closed v : Tally) (parts' : List Part) (out' out : List ℕ) → kind_of line ≡ Bar → v ≡ with_active closed t.active
       → ((offset : ℕ) → told (Ok closed) cells parts' out' ≡ landed (goes (read_bar (placed offset (filled_bars (length cells) ts)) (state_of cells parts t))) out t.at)
       → (offset : ℕ) → told_row (Ok v) row parts' out' ≡ landed (goes (read_bar (placed offset (repaired t.active ts)) (state_of cells parts t))) out t.at
   bar_told closed v parts' out' out k e so offset =
@@ -67,7 +73,7 @@ module _ {row parts : List ℕ} {t : Tally} (u : Under row parts t) (line : List
       ∙ so offset
       ∙ ap (λ (l : List (List ℕ)). landed (goes (read_bar (placed offset l) (state_of cells parts t))) out t.at) (bar_filled k)
 
-  pub data_told : (s : Result Tally Refusal) (parts' out' out : List ℕ) (number offset : ℕ) → kind_of line ≡ Data
+  pub data_told : (s : Result Tally Refusal) (parts' : List Part) (out' out : List ℕ) (number offset : ℕ) → kind_of line ≡ Data
       → (told s cells parts' out' ≡ landed (read_data number (placed offset (take (length cells) ts)) (state_of cells parts t)) out t.at) × Kept t s
       → told_row s row parts' out' ≡ landed (read_data number (placed offset (repaired t.active ts)) (state_of cells parts t)) out t.at
   data_told s parts' out' out number offset k so =
@@ -76,7 +82,7 @@ module _ {row parts : List ℕ} {t : Tally} (u : Under row parts t) (line : List
       ∙ ap (λ (l : List (List ℕ)). landed (read_data number (placed offset l) (state_of cells parts t)) out t.at) (data_taken k)
 
   -- by the kind that the code matched
-  module _ (s : Result Tally Refusal) (row' parts' out' out : List ℕ) (number offset : ℕ) (kind : Kind) (is : kind ≡ kind_of line) where
+  module _ (s : Result Tally Refusal) (row' : List ℕ) (parts' : List Part) (out' out : List ℕ) (number offset : ℕ) (kind : Kind) (is : kind ≡ kind_of line) where
     abbrev comes : Kind → Landed
     comes k = landed (by_kind k number (placed offset (repaired t.active ts)) (state_of cells parts t)) out t.at
 

@@ -14,6 +14,7 @@ use Rattle.repair.specs.Repair.{repaired, repaired_of, repair_notice}
 use Rattle.repair.specs.declared.Repair.{Repair}
 use Rattle.sheet.specs.Record.{span_of}
 use Rattle.reading.specs.State.{State, Result, Step, goes, ends}
+use Rattle.reading.specs.declared.Part.{Part}
 use Rattle.reading.specs.Notices.{placed, notify, quiet}
 use Rattle.reading.specs.Notes as notes
 use Rattle.reading.specs.Records.{notice_repair, by_repair, on_row}
@@ -28,7 +29,7 @@ use Rattle.writing.specs.Kept.{notice_of, kept_records, after_kept}
 use Rattle.writing.proofs.KeptLaws.{kept_same, notify_told}
 
 -- a result that was told, and a step behind it
-pub landed_told : (u : Tally) (cells parts out' : List ℕ) (r : Result) (f : State → Step) (out : List ℕ) (at : ℕ)
+pub landed_told : (u : Tally) (cells : List ℕ) (parts : List Part) (out' : List ℕ) (r : Result) (f : State → Step) (out : List ℕ) (at : ℕ)
     → told (Ok u) cells parts out' ≡ landed (goes r) out at
     → landed (notes.behind r f) out at ≡ landed (f (state_of cells parts u)) out' u.at
 landed_told u cells parts out' r f out at e =
@@ -55,7 +56,7 @@ some_left (c ∷ cells) line n k at st e h =
     ap (λ (j : ℕ). by_repair (repaired_of j (tokens_of line)) k at line (placed at (repaired j (tokens_of line))) st) m
 
 -- a result that ends the reading
-pub ends_told : (u : Tally) (cells parts out' : List ℕ) (r : Result) (out : List ℕ) (at : ℕ)
+pub ends_told : (u : Tally) (cells : List ℕ) (parts : List Part) (out' : List ℕ) (r : Result) (out : List ℕ) (at : ℕ)
     → told (Ok u) cells parts out' ≡ landed (goes r) out at → ending (state_of cells parts u) u.at out' ≡ landed (ends r) out at
 ends_told u cells parts out' r out at e =
     let s : state_of cells parts u ≡ r.state = cc in
@@ -73,12 +74,12 @@ unfolding notice_repair
 repair_noticed r k at line st n e = rw e
 
 -- nothing arises
-pub quiet_told : (t : Tally) (cells parts out : List ℕ) → told (Ok t) cells parts out ≡ landed (goes (quiet (state_of cells parts t))) out t.at
+pub quiet_told : (t : Tally) (cells : List ℕ) (parts : List Part) (out : List ℕ) → told (Ok t) cells parts out ≡ landed (goes (quiet (state_of cells parts t))) out t.at
 unfolding laid behind
 quiet_told t cells parts out = refl
 
 module _ (r : Repair) (k at : ℕ) (line : List ℕ) (t : Tally) (out : List ℕ) where
-  pub no_repair_told : {o : Option ℕ} → o ≡ repair_notice r → o ≡ None → (cells parts : List ℕ)
+  pub no_repair_told : {o : Option ℕ} → o ≡ repair_notice r → o ≡ None → (cells : List ℕ) (parts : List Part)
       → told (Ok t) cells parts out ≡ landed (goes (notice_repair r k at line (state_of cells parts t))) out t.at
   no_repair_told e z cells parts =
       quiet_told t cells parts out
@@ -86,9 +87,9 @@ module _ (r : Repair) (k at : ℕ) (line : List ℕ) (t : Tally) (out : List ℕ
 
   pub repair_told : {o : Option ℕ} {n len : ℕ} {u : Tally} {out' : List ℕ} → o ≡ repair_notice r → o ≡ Some n → len ≡ length line
       → (out' ≡ laid out t.at (kept_records t (notice_of n k 0 (span_of at len)) [])) × (u ≡ after_kept t (notice_of n k 0 (span_of at len)) [])
-      → ((cells parts : List ℕ) → told (Ok u) cells parts out' ≡ landed (goes (notice_repair r k at line (state_of cells parts t))) out t.at) × Same t u
+      → ((cells : List ℕ) (parts : List Part) → told (Ok u) cells parts out' ≡ landed (goes (notice_repair r k at line (state_of cells parts t))) out t.at) × Same t u
   repair_told {o} {n} {len} {u} {out'} e z l w = (
-    λ (cells parts : List ℕ).
+    λ (cells : List ℕ) (parts : List Part).
         ap₂ (λ (x : Tally) (o : List ℕ). told (Ok x) cells parts o) w.1 w.0
         ∙ notify_told cells parts t n k 0 (span_of at len) out
         ∙ ap (λ (j : ℕ). landed (goes (notify n k 0 (span_of at j) (state_of cells parts t))) out t.at) l
@@ -97,6 +98,6 @@ module _ (r : Repair) (k at : ℕ) (line : List ℕ) (t : Tally) (out : List ℕ
   )
 
 -- a step that keeps the active spines
-pub kept_row : (s : Answered Tally Refusal) (t : Tally) → Kept t s → (row parts out : List ℕ) → told_row s row parts out ≡ told s (take t.active row) parts out
+pub kept_row : (s : Answered Tally Refusal) (t : Tally) → Kept t s → (row : List ℕ) (parts : List Part) (out : List ℕ) → told_row s row parts out ≡ told s (take t.active row) parts out
 kept_row (Ok u) t k row parts out = ap (λ (n : ℕ). told (Ok u) (take n row) parts out) k.active
 kept_row (Err n) t k row parts out = refl

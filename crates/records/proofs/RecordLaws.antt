@@ -18,6 +18,7 @@ use Rattle.repair.specs.declared.Repaired.{Repaired}
 use Rattle.repair.specs.declared.Repaired.TheVariants.{Uneven, Mixed, Even}
 use Rattle.sheet.specs.Record.{span_of}
 use Rattle.reading.specs.State.{State, Step, goes}
+use Rattle.reading.specs.declared.Part.{Part}
 use Rattle.reading.specs.Notices.{placed, notify}
 use Rattle.reading.specs.Header.{read_reference, read_header}
 use Rattle.reading.specs.Records.{notice_repair, by_kind, by_repair, on_row, on_record, by_line, is_record, read_line}
@@ -34,11 +35,10 @@ use Rattle.records.proofs.OutcomeLaws.{landed_told, none_left, some_left, ends_t
 use Rattle.records.proofs.KindLaws.{row_length}
 
 -- the same counts of spines, parts and bars
-pub under_same : {row parts : List ℕ} {t u : Tally} → Same t u → Under row parts t → Under row parts u
-under_same {row} {parts} {t} {u} s h = record {
+pub under_same : {row : List ℕ} {t u : Tally} → Same t u → Under row t → Under row u
+under_same {row} {t} {u} s h = record {
   ready = record {
     cells_long = subst (λ (n : ℕ). length (take n row) ≤ 256) (sym s.active) h.ready.cells_long;
-    parts_long = h.ready.parts_long;
     parts_few = omega (arith, h.ready.parts_few, s.parts);
     bars_few = omega (arith, h.ready.bars_few, s.bars);
     within = λ (j p v : ℕ) e. omega (arith, s.parts, h.ready.within j p v (subst (λ (n : ℕ). spine_at (row_of (take n row)) j ≡ Line-of p v) s.active e));
@@ -47,13 +47,13 @@ under_same {row} {parts} {t} {u} s h = record {
   row_long = h.row_long;
 }
 
-pub here_same : {line row parts : List ℕ} {t u : Tally} {number offset : ℕ} → Same t u → Here line row parts t number offset → Here line row parts u number offset
+pub here_same : {line row : List ℕ} {t u : Tally} {number offset : ℕ} → Same t u → Here line row t number offset → Here line row u number offset
 here_same s h = record { under = under_same s h.under; short = h.short; numbered = h.numbered }
 
 pub even_same : {t u : Tally} {r : Repair} {found : Repaired} (line : List ℕ) → Same t u → found ≡ repaired_of t.active (tokens_of line) → found ≡ Even r → Evenly u.active line
 even_same {t} {u} {r} line s e is = (r, ap (λ (n : ℕ). repaired_of n (tokens_of line)) s.active ∙ sym e ∙ is)
 
-module _ {row parts : List ℕ} {t : Tally} (h : Under row parts t) (line out : List ℕ) (number offset : ℕ) where
+module _ (parts : List Part) {row : List ℕ} {t : Tally} (h : Under row t) (line out : List ℕ) (number offset : ℕ) where
   abbrev cells : List ℕ
   cells = take t.active row
 
@@ -96,7 +96,7 @@ module _ {row parts : List ℕ} {t : Tally} (h : Under row parts t) (line out : 
         (by_found ∙ ap (λ (x : Repaired). by_repair x number offset line (placed offset (repaired t.active (tokens_of line))) st) e))
 
     pub even_told : {r : Repair} {kind : Kind} (u : Tally) (out' : List ℕ) (x : Landed) → found ≡ Even r → kind ≡ kind_of line
-        → ((cs ps : List ℕ) → told (Ok u) cs ps out' ≡ landed (goes (notice_repair r number offset line (state_of cs ps t))) out t.at) → Same t u
+        → ((cs : List ℕ) (ps : List Part) → told (Ok u) cs ps out' ≡ landed (goes (notice_repair r number offset line (state_of cs ps t))) out t.at) → Same t u
         → x ≡ landed (by_kind kind number (placed offset (repaired u.active (tokens_of line))) (state_of (take u.active row) parts u)) out' u.at
         → x ≡ landed (on_row (row_of cells) number offset line st) out t.at
     even_told {r} {kind} u out' x e k noticed same so =
@@ -109,7 +109,7 @@ module _ {row parts : List ℕ} {t : Tally} (h : Under row parts t) (line out : 
         (by_found ∙ ap (λ (y : Repaired). by_repair y number offset line (placed offset (repaired t.active (tokens_of line))) st) e))
 
 -- ---- the header, or a record behind it
-module _ (begun : Bool) (x : Landed) (line out cells parts : List ℕ) (t : Tally) (number offset : ℕ) where
+module _ (begun : Bool) (x : Landed) (line out cells : List ℕ) (parts : List Part) (t : Tally) (number offset : ℕ) where
   pub behind_header : begun ≡ true → x ≡ landed (on_row (row_of cells) number offset line (state_of cells parts t)) out t.at
       → x ≡ landed (on_record begun number offset line (state_of cells parts t)) out t.at
   behind_header b so = so ∙ ap (λ (y : Bool). landed (on_record y number offset line (state_of cells parts t)) out t.at) (sym b)

@@ -8,13 +8,13 @@ use Rattle.state.specs.Ready.{Ready}
 use Rattle.state.specs.declared.Tally.{Tally}
 
 -- the row is the first active cells of an array
-pub record Under (row parts : List ℕ) (t : Tally) : Type 0 where
-  pub ready : Ready (take t.active row) parts t
+pub record Under (row : List ℕ) (t : Tally) : Type 0 where
+  pub ready : Ready (take t.active row) t
   pub few : t.active ≤ 256
   pub row_long : length row ≡ 512
 
-pub record Here (line row parts : List ℕ) (t : Tally) (number offset : ℕ) : Type 0 where
-  pub under : Under row parts t
+pub record Here (line row : List ℕ) (t : Tally) (number offset : ℕ) : Type 0 where
+  pub under : Under row t
   pub short : offset + length line < 2 ^ 27
   pub numbered : number < 2 ^ 27
 

@@ -1,4 +1,4 @@
--- One column: what an interpretation comes to in the flat state.
+-- One column: what an interpretation comes to in the state that the code keeps.
 use Rattle.std.specs.Prelude.{Ok}
 use mathlib.Core.Path.{◌≡◌, refl, sym, ap, ap₂, ◌∙◌, subst}
 use Prim.Native.Nat.{ℕ, ◌+◌, ◌-◌, ◌*◌, ◌/◌, ◌%◌, ◌≤◌, ◌<◌}
@@ -6,8 +6,8 @@ use native.Mathlib.Omega.{arith}
 use mathlib.Core.Bool.{Bool, cond}
 use mathlib.Core.List.{List, []}
 use lib.Dec.{eqb}
-use lib.ListN.{length, drop, set, get_or}
-use lib.Seq.{get_or-take, get_or-drop, set-get_or}
+use lib.ListN.{length, take, set, get_or}
+use lib.Seq.{set-get_or, take-set-lt}
 use Rattle.state.proofs.CountLaws.{same}
 use Rattle.state.specs.Counts.{Same}
 use Rattle.interpretation.specs.Interpretation.{interpretation_of}
@@ -24,43 +24,37 @@ use Rattle.sheet.specs.Record.{span_of}
 use Rattle.sheet.specs.declared.Span.{Span}
 use Rattle.spines.specs.Cells.{spine_of}
 use Rattle.spines.proofs.CellLaws.{cell_outside, cell_line, cell_branch}
-use Rattle.reading.specs.State.{Part, State, Result, goes, fresh_part, part_at, with_parts}
+use Rattle.reading.specs.State.{State, Result, goes, fresh_part, part_at, with_parts}
+use Rattle.reading.specs.declared.Part.{Part}
 use Rattle.reading.specs.Notices.{Token, quiet, notify}
 use Rattle.reading.specs.Star.{applied, heeded, interpret, column_by, first_tempo}
 use Rattle.state.specs.declared.Tally.{Tally}
 use Rattle.state.specs.Lay.{laid, behind}
-use Rattle.state.specs.Parts.{part_of, parts_of}
 use Rattle.state.specs.View.{state_of, landed, told}
-use Rattle.state.proofs.PartLaws.{part_at_lem}
+use Rattle.state.proofs.PartLaws.{part_in}
 use Rattle.writing.specs.Kept.{notice_of, kept_records, after_kept}
 use Rattle.writing.proofs.KeptLaws.{notify_told, kept_same}
 use Rattle.tandem.specs.Change.{changed}
 use borrow.Author.Tests.{eq-eqb, ne_eqb}
 use Rattle.stars.specs.Columns.{token_of, with_first, tempoed, Comes, Fit}
 
-pub noted_is : (n p : ℕ) (s : List ℕ) → p < n → eqb (get_or s (p * 35 + 10) 0) 1 ≡ (get_or (parts_of n s) p (fresh_part p)).noted
-unfolding part_of
-noted_is n p s lt =
-    sym (ap (λ (q : Part). q.noted) (part_at_lem n p (p * 35) (fresh_part p) s refl lt)
-    ∙ ap (λ (x : ℕ). eqb x 1) (get_or-take 35 (drop (p * 35) s) 10 0 (omega arith) ∙ get_or-drop (p * 35) s 10 0))
-
 -- ---- a piece of the reading that says the same; one that does nothing; a notice
 
-pub comes_as : {f g : State → Result} {parts out parts' out' : List ℕ} {t r : Tally} → ((st : State) → g st ≡ f st) → Comes f parts out t parts' out' r
+pub comes_as : {f g : State → Result} {parts : List Part} {out : List ℕ} {parts' : List Part} {out' : List ℕ} {t r : Tally} → ((st : State) → g st ≡ f st) → Comes f parts out t parts' out' r
     → Comes g parts out t parts' out' r
 comes_as {parts} {out} {t} e h = record {
   same = λ (cells : List ℕ). h.same cells ∙ ap (λ (x : Result). landed (goes x) out t.at) (sym (e (state_of cells parts t)));
   held = h.held;
 }
 
-pub comes_quiet : {f : State → Result} {parts out : List ℕ} {t : Tally} → ((st : State) → f st ≡ quiet st) → Comes f parts out t parts out t
+pub comes_quiet : {f : State → Result} {parts : List Part} {out : List ℕ} {t : Tally} → ((st : State) → f st ≡ quiet st) → Comes f parts out t parts out t
 unfolding laid behind
 comes_quiet {f} {parts} {out} {t} e = record {
   same = λ (cells : List ℕ). ap (λ (x : Result). landed (goes x) out t.at) (sym (e (state_of cells parts t)));
   held = same t;
 }
 
-pub comes_notice : {f : State → Result} {parts out out' : List ℕ} {t r : Tally} (number k column : ℕ) (value : Span)
+pub comes_notice : {f : State → Result} {parts : List Part} {out out' : List ℕ} {t r : Tally} (number k column : ℕ) (value : Span)
     → (out' ≡ laid out t.at (kept_records t (notice_of number k column value) [])) × (r ≡ after_kept t (notice_of number k column value) [])
     → ((st : State) → f st ≡ notify number k column value st) → Comes f parts out t parts out' r
 comes_notice {f} {parts} {out} {out'} {t} {r} number k column value w e = comes_as e (record {
@@ -83,13 +77,13 @@ tempo_held ShortName t = same t
 tempo_held (Mode x) t = same t
 
 -- the parts changed and the first tempo: what is applied
-by_what : (w : Interpretation) (p : ℕ) (tok : Token) (cells parts parts' out : List ℕ) (t : Tally)
-    → parts_of t.parts parts' ≡ set (parts_of t.parts parts) p (changed w (span_of (tok.at + 3) (length tok.bytes - 3)) (part_at (state_of cells parts t) p))
+by_what : (w : Interpretation) (p : ℕ) (tok : Token) (cells : List ℕ) (parts parts' : List Part) (out : List ℕ) (t : Tally)
+    → take t.parts parts' ≡ set (take t.parts parts) p (changed w (span_of (tok.at + 3) (length tok.bytes - 3)) (part_at (state_of cells parts t) p))
     → told (Ok (tempoed w t)) cells parts' out ≡ landed (goes (applied w tok p (part_at (state_of cells parts t) p) (state_of cells parts t))) out t.at
 unfolding behind laid
 by_what Nothing p tok cells parts parts' out t e =
     ap (λ (ps : List Part). landed (goes (quiet (with_parts (state_of cells parts t) ps))) out t.at)
-    (e ∙ set-get_or (parts_of t.parts parts) p (fresh_part p))
+    (e ∙ set-get_or (take t.parts parts) p (fresh_part p))
 by_what (Clef x) p tok cells parts parts' out t e = ap (λ (ps : List Part). landed (goes (quiet (with_parts (state_of cells parts t) ps))) out t.at) e
 by_what (Key x) p tok cells parts parts' out t e = ap (λ (ps : List Part). landed (goes (quiet (with_parts (state_of cells parts t) ps))) out t.at) e
 by_what (Meter x y) p tok cells parts parts' out t e = ap (λ (ps : List Part). landed (goes (quiet (with_parts (state_of cells parts t) ps))) out t.at) e
@@ -101,25 +95,30 @@ by_what ShortName p tok cells parts parts' out t e = ap (λ (ps : List Part). la
 by_what (Mode x) p tok cells parts parts' out t e = ap (λ (ps : List Part). landed (goes (quiet (with_parts (state_of cells parts t) ps))) out t.at) e
 
 -- what the token says, by the state before it
-module _ (bytes : List ℕ) (p k j at : ℕ) (parts : List ℕ) (tally : Tally) {says : Says} {noted : Bool}
-    (low : p < tally.parts) (top : tally.parts ≤ 256)
-    (n : (n : ℕ) → p < n → noted ≡ (get_or (parts_of n parts) p (fresh_part p)).noted)
-    (w : says ≡ interpretation_of bytes noted) where
+module _ (bytes : List ℕ) (p k j at : ℕ) (d : Part) (parts : List Part) (tally : Tally) {says : Says} (low : p < tally.parts) (top : tally.parts ≤ length parts)
+    (w : says ≡ interpretation_of bytes (get_or parts p d).noted) where
+  part_is : get_or parts p d ≡ get_or (take tally.parts parts) p (fresh_part p)
+  part_is = part_in tally.parts p d (fresh_part p) parts low top
+
   heeded_is : (cells : List ℕ) → heeded says k j (token_of at bytes) p (part_at (state_of cells parts tally) p) (state_of cells parts tally)
       ≡ interpret (line p 0) k j (token_of at bytes) (state_of cells parts tally)
   heeded_is cells =
       ap (λ (x : Says). heeded x k j (token_of at bytes) p (part_at (state_of cells parts tally) p) (state_of cells parts tally))
-      (w ∙ ap (interpretation_of bytes) (n tally.parts low))
+      (w ∙ ap (λ (x : Part). interpretation_of bytes x.noted) part_is)
 
-  pub apply_comes : {parts' out : List ℕ} {t : Tally} {what : Interpretation} → says ≡ Ok what
-      → ((n : ℕ) → n ≤ 256 → p < n → parts_of n parts' ≡ set (parts_of n parts) p (changed what (span_of (at + 3) (length bytes - 3)) (get_or (parts_of n parts) p (fresh_part p))))
+  -- the part comes back as q
+  pub apply_comes : {q : Part} {out : List ℕ} {t : Tally} {what : Interpretation} → says ≡ Ok what
+      → q ≡ changed what (span_of (at + 3) (length bytes - 3)) (get_or parts p d)
       → t ≡ tempoed what tally
-      → Comes (interpret (line p 0) k j (token_of at bytes)) parts out tally parts' out t
-  apply_comes {parts'} {out} {t} {what} o c f =
+      → Comes (interpret (line p 0) k j (token_of at bytes)) parts out tally (set parts p q) out t
+  apply_comes {q} {out} {t} {what} o c f =
+      let changes : take tally.parts (set parts p q) ≡ set (take tally.parts parts) p (changed what (span_of (at + 3) (length bytes - 3)) (get_or (take tally.parts parts) p (fresh_part p)))
+      = take-set-lt tally.parts parts p q low
+      ∙ ap (set (take tally.parts parts) p) (c ∙ ap (changed what (span_of (at + 3) (length bytes - 3))) part_is) in
       record {
         same = λ (cells : List ℕ).
-            ap (λ (x : Tally). told (Ok x) cells parts' out) f
-            ∙ by_what what p (token_of at bytes) cells parts parts' out tally (c tally.parts top low)
+            ap (λ (x : Tally). told (Ok x) cells (set parts p q) out) f
+            ∙ by_what what p (token_of at bytes) cells parts (set parts p q) out tally changes
             ∙ ap (λ (x : Says). landed (goes (heeded x k j (token_of at bytes) p (part_at (state_of cells parts tally) p) (state_of cells parts tally))) out tally.at) (sym o)
             ∙ ap (λ (r : Result). landed (goes r) out tally.at) (heeded_is cells);
         held = subst (Same tally) (sym f) (tempo_held what tally);
@@ -142,18 +141,18 @@ module _ (bytes : List ℕ) (p k j at : ℕ) (parts : List ℕ) (tally : Tally) 
 -- ---- by the column's cell
 
 module _ (cell k j : ℕ) (tok : Token) where
-  pub in_outside : {parts out : List ℕ} {t : Tally} → cell < 8 → Comes (interpret (spine_of cell) k j tok) parts out t parts out t
+  pub in_outside : {parts : List Part} {out : List ℕ} {t : Tally} → cell < 8 → Comes (interpret (spine_of cell) k j tok) parts out t parts out t
   in_outside h = comes_quiet (λ (st : State). ap (λ (s : Spine). interpret s k j tok st) (cell_outside cell (omega arith)))
 
-  pub in_branch : {parts out : List ℕ} {t : Tally} → 8 ≤ cell → 3 < cell % 8 → Comes (interpret (spine_of cell) k j tok) parts out t parts out t
+  pub in_branch : {parts : List Part} {out : List ℕ} {t : Tally} → 8 ≤ cell → 3 < cell % 8 → Comes (interpret (spine_of cell) k j tok) parts out t parts out t
   in_branch h v = comes_quiet (λ (st : State). ap (λ (s : Spine). interpret s k j tok st) (cell_branch cell (cell / 8 - 1) (omega arith) (omega arith)))
 
-  pub in_line : {parts out parts' out' : List ℕ} {t r : Tally} → 8 ≤ cell → cell % 8 ≤ 3
+  pub in_line : {parts : List Part} {out : List ℕ} {parts' : List Part} {out' : List ℕ} {t r : Tally} → 8 ≤ cell → cell % 8 ≤ 3
       → Comes (interpret (line (cell / 8 - 1) 0) k j tok) parts out t parts' out' r → Comes (interpret (spine_of cell) k j tok) parts out t parts' out' r
   in_line h v = comes_as (λ (st : State). ap (λ (s : Spine). interpret s k j tok st) (cell_line cell (cell / 8 - 1) (omega arith) (omega arith)))
 
 -- the part of a line's cell
-pub in_part : {cell : ℕ} {parts token : List ℕ} {t : Tally} {at : ℕ} → Fit cell parts token t at → 8 ≤ cell → cell % 8 ≤ 3 → cell / 8 - 1 < t.parts
+pub in_part : {cell : ℕ} {token : List ℕ} {t : Tally} {at : ℕ} → Fit cell token t at → 8 ≤ cell → cell % 8 ≤ 3 → cell / 8 - 1 < t.parts
 in_part {cell} fit h v = fit.within (cell / 8 - 1) (cell % 8) (cell_line cell (cell / 8 - 1) (omega arith) (omega arith))
 
 -- ---- by the token

@@ -26,6 +26,7 @@ use Rattle.spines.specs.Cells.{spine_of, row_of}
 use Rattle.spines.specs.Tokens.{path_tokens}
 use Rattle.spines.proofs.CellLaws.{cell_at, row_drop, row_none}
 use Rattle.reading.specs.State.{State, Result, goes}
+use Rattle.reading.specs.declared.Part.{Part}
 use Rattle.reading.specs.Notices.{Token, placed, quiet, after}
 use Rattle.reading.specs.Star.{interpret, column_by, paired, read_columns}
 use Rattle.state.specs.declared.Tally.{Tally}
@@ -108,10 +109,9 @@ onwards text cells number offset from i =
 abbrev here_of : List ℕ → ℕ → ℕ → List ℕ
 here_of text from e = take (e - from) (drop from text)
 
-pub record Loop (text cells : List ℕ) (number offset : ℕ) (parts₀ out₀ : List ℕ) (tally : Tally) (parts out : List ℕ) (t : Tally) (left : Bool) (from i : ℕ) : Type 0 where
+pub record Loop (text cells : List ℕ) (number offset : ℕ) (parts₀ : List Part) (out₀ : List ℕ) (tally : Tally) (parts : List Part) (out : List ℕ) (t : Tally) (left : Bool) (from i : ℕ) : Type 0 where
   pub high : i ≤ length cells
   pub near : from ≤ length text + 1
-  pub long : length parts ≡ length parts₀
   pub kept : length out ≡ length out₀
   pub held : Same tally t
   pub tokens : drop i (paths_of text cells) ≡ path_tokens (length cells - i) (pieces 9 from text)
@@ -122,12 +122,11 @@ pub record Loop (text cells : List ℕ) (number offset : ℕ) (parts₀ out₀ :
 zero_off : (k : ℕ) → k - 0 ≡ k
 zero_off k = omega arith
 
-pub loop_first : {text cells : List ℕ} {number offset : ℕ} {parts out : List ℕ} {tally : Tally}
+pub loop_first : {text cells : List ℕ} {number offset : ℕ} {parts : List Part} {out : List ℕ} {tally : Tally}
     → Loop text cells number offset parts out tally parts out tally false 0 0
 loop_first {text} {cells} {number} {offset} {parts} {out} {tally} = record {
   high = omega arith;
   near = omega arith;
-  long = refl;
   kept = refl;
   held = same tally;
   tokens = path_filled (length cells) (tokens_of text)
@@ -139,15 +138,14 @@ loop_first {text} {cells} {number} {offset} {parts} {out} {tally} = record {
       (sym (zero_off (length cells))) (sym (all_pieces 9 text));
 }
 
-module _ {text cells : List ℕ} {number offset : ℕ} {parts₀ out₀ : List ℕ} {tally : Tally} {parts out : List ℕ} {t : Tally} {left : Bool} {from i : ℕ}
+module _ {text cells : List ℕ} {number offset : ℕ} {parts₀ : List Part} {out₀ : List ℕ} {tally : Tally} {parts : List Part} {out : List ℕ} {t : Tally} {left : Bool} {from i : ℕ}
     (inv : Loop text cells number offset parts₀ out₀ tally parts out t left from i) where
-  pub loop_fit : {e : ℕ} → Ready cells parts₀ tally → offset + length text < 2 ^ 27 → i < length cells → Piece 9 text from e
-      → Fit (get_or cells i 0) parts (take (e - from) (drop from text)) t (offset + from)
+  pub loop_fit : {e : ℕ} → Ready cells tally → offset + length text < 2 ^ 27 → i < length cells → Piece 9 text from e
+      → Fit (get_or cells i 0) (take (e - from) (drop from text)) t (offset + from)
   loop_fit {e} ready small low piece =
       let n : length (drop from text) ≡ length text - from = length-drop from text in
       let l : length (take (e - from) (drop from text)) ≡ e - from = length-take-le (e - from) (drop from text) (omega (arith, piece.low, piece.high)) in
       record {
-        parts_long = inv.long ∙ ready.parts_long;
         parts_few = omega (arith, inv.held.parts, ready.parts_few);
         within = λ (p v : ℕ) q. omega (arith, inv.held.parts, ready.within i p v (cell_at cells i low ∙ q));
         small = omega (arith, piece.low, piece.high);
@@ -194,13 +192,12 @@ module _ {text cells : List ℕ} {number offset : ℕ} {parts₀ out₀ : List �
         (read_columns (paths_of text cells) number k (row_of (drop (i + 1) cells)) (placed (offset + (e + 1)) (filled (length cells - (i + 1)) (pieces 9 (e + 1) text)))))
         (sym both_is) (sym (add-one i))
 
-    pub loop_turn : {parts' out' : List ℕ} {r : Tally} → Comes (column_by (path_token (here_of text from e)) both (spine_of (get_or cells i 0)) number (i + 1) (token_of (offset + from) (here_of text from e))) parts out t parts' out' r
-        → length parts' ≡ length parts → length out' ≡ length out
+    pub loop_turn : {parts' : List Part} {out' : List ℕ} {r : Tally} → Comes (column_by (path_token (here_of text from e)) both (spine_of (get_or cells i 0)) number (i + 1) (token_of (offset + from) (here_of text from e))) parts out t parts' out' r
+        → length out' ≡ length out
         → Loop text cells number offset parts₀ out₀ tally parts' out' r right (e + 1) (i + 1)
-    loop_turn comes p o = record {
+    loop_turn comes o = record {
       high = omega arith;
       near = omega (arith, piece.high);
-      long = p ∙ inv.long;
       kept = o ∙ inv.kept;
       held = same_same inv.held comes.held;
       tokens = sym (drop-drop 1 i (paths_of text cells)) ∙ ap (drop 1) inv.tokens

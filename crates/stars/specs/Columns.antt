@@ -9,6 +9,7 @@ use Rattle.interpretation.specs.declared.Interpretation.{Interpretation}
 use Rattle.interpretation.specs.declared.Interpretation.TheVariants.{Tempo}
 use Rattle.spines.specs.Cells.{spine_of, row_of}
 use Rattle.reading.specs.State.{State, Result, goes}
+use Rattle.reading.specs.declared.Part.{Part}
 use Rattle.reading.specs.Notices.{Token, placed}
 use Rattle.reading.specs.Star.{read_columns}
 use Rattle.state.specs.declared.Tally.{Tally}
@@ -47,13 +48,12 @@ tempoed (Tempo bpm) t = with_first t bpm
 tempoed _ t = t
 
 -- from parts, buffer and counts to others the code has done what a piece of the reading does, whatever the row
-pub record Comes (f : State → Result) (parts out : List ℕ) (t : Tally) (parts' out' : List ℕ) (r : Tally) : Type 0 where
+pub record Comes (f : State → Result) (parts : List Part) (out : List ℕ) (t : Tally) (parts' : List Part) (out' : List ℕ) (r : Tally) : Type 0 where
   pub same : (cells : List ℕ) → told (Ok r) cells parts' out' ≡ landed (goes (f (state_of cells parts t))) out t.at
   pub held : Same t r
 
 -- what keeps the numbers of a column small
-pub record Fit (cell : ℕ) (parts token : List ℕ) (t : Tally) (offset : ℕ) : Type 0 where
-  pub parts_long : length parts ≡ 8960
+pub record Fit (cell : ℕ) (token : List ℕ) (t : Tally) (offset : ℕ) : Type 0 where
   pub parts_few : t.parts ≤ 256
   pub within : (p v : ℕ) → spine_of cell ≡ line p v → p < t.parts
   pub small : offset + length token < 2 ^ 27

@@ -11,17 +11,19 @@ ghost use Rattle.paths.specs.Trace.{token_at};
 ghost use Rattle.spines.specs.Cells.{spine_of};
 ghost use Rattle.spines.specs.Tokens.{path_tokens};
 ghost use Rattle.sheet.specs.Record.{span_of};
-ghost use Rattle.reading.specs.State.{fresh_part, goes};
+ghost use Rattle.reading.specs.State.{goes};
+ghost use Rattle.reading.specs.declared.Part.{Part};
 ghost use Rattle.reading.specs.Notices.{placed};
 ghost use Rattle.reading.specs.Star.{interpret, column_by, read_star};
-ghost use Rattle.state.specs.Parts.{parts_of};
 ghost use Rattle.state.specs.View.{state_of, landed, told, told_row};
-ghost use Rattle.state.specs.Ready.{Ready};
+ghost use Rattle.state.specs.Counts.{Same};
+ghost use Rattle.state.specs.Ready.{Ready, Few};
 ghost use Rattle.stars.specs.Columns.{filled, token_of, columns_of, with_first, tempoed, Comes, Fit};
 ghost use Rattle.stars.specs.Next.{stepped};
 
 use interpretation::Interpretation;
 use paths::PathToken;
+use reading::Part;
 use refusal::Refusal;
 use sheet::Span;
 use state::Tally;
@@ -50,33 +52,24 @@ fn first_tempo(tally: Tally, what: Interpretation) -> Tally
     }
 }
 
-// Whether a part has a note in the bar.
-fn is_noted(parts: &[u32], p: usize) -> bool
-    requires { (length parts.now ≡ 8960) × (p < 256) }
-    ensures { (n : ℕ) → p < n → result ≡ (get_or (parts_of n parts.now) p (fresh_part p)).noted }
-{
-    parts[p * 35 + 10] == 1
-}
-
 // An ordinary interpretation in a line of a part.
 fn apply(
     token: &[u8],
     p: usize,
-    parts: &mut [u32],
+    parts: &mut [Part; 256],
     tally: Tally,
     number: u32,
     column: u16,
     offset: u32,
     out: &mut [u8],
 ) -> Tally
-    requires { (length parts.old ≡ 8960) × ((p < tally.parts) × ((tally.parts ≤ 256) × (offset + length token.now < 2 ^ 27))) }
+    requires { (p < tally.parts) × ((tally.parts ≤ 256) × (offset + length token.now < 2 ^ 27)) }
     ensures { Comes (interpret (line p 0) number column (token_of offset token.now)) parts.old out.old tally parts.new out.new result }
 {
-    let noted = is_noted(parts, p);
     let len = token.len() as u32;
-    match interpretation::interpret(token, noted) {
+    match interpretation::interpret(token, parts[p].noted) {
         Ok(what) => {
-            tandem::change_part(parts, p, what, offset, len);
+            tandem::change(&mut parts[p], what, offset, len);
             first_tempo(tally, what)
         }
         Err(why) => writing::notify(
@@ -94,14 +87,14 @@ fn apply(
 fn apply_in(
     token: &[u8],
     cell: u16,
-    parts: &mut [u32],
+    parts: &mut [Part; 256],
     tally: Tally,
     number: u32,
     column: u16,
     offset: u32,
     out: &mut [u8],
 ) -> Tally
-    requires { Fit cell parts.old token.now tally offset }
+    requires { Fit cell token.now tally offset }
     ensures { Comes (interpret (spine_of cell) number column (token_of offset token.now)) parts.old out.old tally parts.new out.new result }
 {
     if cell < 8 {
@@ -119,14 +112,14 @@ fn read_column(
     token: &[u8],
     paired: bool,
     cell: u16,
-    parts: &mut [u32],
+    parts: &mut [Part; 256],
     tally: Tally,
     number: u32,
     column: u16,
     offset: u32,
     out: &mut [u8],
 ) -> Tally
-    requires { Fit cell parts.old token.now tally offset }
+    requires { Fit cell token.now tally offset }
     ensures { Comes (column_by (path_token token.now) paired (spine_of cell) number column (token_of offset token.now)) parts.old out.old tally parts.new out.new result }
 {
     match paths::path_token(token) {
@@ -179,14 +172,15 @@ fn exchanges_right(line: &[u8], from: usize, end: usize, n: usize, left: bool) -
 pub fn read_columns(
     line: &[u8],
     row: &[u16],
-    parts: &mut [u32],
+    parts: &mut [Part; 256],
     tally: Tally,
     number: u32,
     offset: u32,
     out: &mut [u8],
 ) -> Tally
-    requires { Ready row.now parts.old tally × ((offset + length line.now < 2 ^ 27) × (number < 2 ^ 27)) }
-    ensures { told (Ok result) row.now parts.new out.new ≡ landed (goes (columns_of line.now row.now number offset (state_of row.now parts.old tally))) out.old tally.at }
+    requires { Ready row.now tally × ((offset + length line.now < 2 ^ 27) × (number < 2 ^ 27)) }
+    ensures told { told (Ok result) row.now parts.new out.new ≡ landed (goes (columns_of line.now row.now number offset (state_of row.now parts.old tally))) out.old tally.at }
+    ensures held { Same tally result }
 {
     let mut t = tally;
     let mut left = false;
@@ -198,7 +192,7 @@ pub fn read_columns(
         }
         let end = lines::token_end(line, from);
         let right = exchanges_right(line, from, end, row.len() - i, left);
-        let paired = slices::either(right, left);
+        let paired = right || left;
         let cell = row[i];
         let at = offset + from as u32;
         i += 1;
@@ -224,14 +218,16 @@ fn columns_of(
     line: &[u8],
     row: &[u16],
     active: usize,
-    parts: &mut [u32],
+    parts: &mut [Part; 256],
     tally: Tally,
     number: u32,
     offset: u32,
     out: &mut [u8],
 ) -> Tally
-    requires { (length row.now ≡ 512) × ((active ≤ 256) × (Ready (take active row.now) parts.old tally × ((offset + length line.now < 2 ^ 27) × (number < 2 ^ 27)))) }
-    ensures { (told (Ok result) (take active row.now) parts.new out.new ≡ landed (goes (columns_of line.now (take active row.now) number offset (state_of (take active row.now) parts.old tally))) out.old tally.at) × (length (take active row.now) ≡ active) }
+    requires { (length row.now ≡ 512) × ((active ≤ 256) × (Ready (take active row.now) tally × ((offset + length line.now < 2 ^ 27) × (number < 2 ^ 27)))) }
+    ensures told { told (Ok result) (take active row.now) parts.new out.new ≡ landed (goes (columns_of line.now (take active row.now) number offset (state_of (take active row.now) parts.old tally))) out.old tally.at }
+    ensures long { length (take active row.now) ≡ active }
+    ensures held { Same tally result }
 {
     read_columns(line, &row[..active], parts, tally, number, offset, out)
 }
@@ -263,14 +259,15 @@ pub fn read_star(
     row: &mut [u16; 512],
     new: &mut [u16; 512],
     masks: &mut [u8; 8192],
-    parts: &mut [u32],
+    parts: &mut [Part; 256],
     tally: Tally,
     number: u32,
     offset: u32,
     out: &mut [u8],
 ) -> Result<Tally, Refusal>
-    requires { (tally.active ≤ 256) × (Ready (take tally.active row.old) parts.old tally × ((offset + length line.now < 2 ^ 27) × (number < 2 ^ 27))) }
-    ensures { told_row result row.new parts.new out.new ≡ landed (read_star number (placed offset (filled (length (take tally.active row.old)) (tokens_of line.now))) (state_of (take tally.active row.old) parts.old tally)) out.old tally.at }
+    requires { (tally.active ≤ 256) × (Ready (take tally.active row.old) tally × ((offset + length line.now < 2 ^ 27) × (number < 2 ^ 27))) }
+    ensures told { told_row result row.new parts.new out.new ≡ landed (read_star number (placed offset (filled (length (take tally.active row.old)) (tokens_of line.now))) (state_of (take tally.active row.old) parts.old tally)) out.old tally.at }
+    ensures few { Few result }
 {
     let active = tally.active;
     let t = columns_of(line, row, active, parts, tally, number, offset, out);

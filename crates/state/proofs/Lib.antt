@@ -1,6 +1,5 @@
--- Laws of cells, places and outcomes.
+-- Laws of parts, places and outcomes.
 pub mod LayLaws
-pub mod RowLaws
 pub mod PartLaws
 pub mod ViewLaws
 pub mod CountLaws

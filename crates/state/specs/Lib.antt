@@ -1,5 +1,4 @@
--- What is known between two lines, flat: how cells and counts say a state, and where records land in a buffer.
-pub mod Parts
+-- What is known between two lines: how cells, parts and counts say a state, and where records land in a buffer.
 pub mod Lay
 pub mod View
 pub mod Ready

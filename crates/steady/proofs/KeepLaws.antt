@@ -25,7 +25,8 @@ use Rattle.paths.specs.Row.{Spine, line, branch, outside}
 use Rattle.sheet.specs.Record.{NOTICE}
 use Rattle.sheet.specs.declared.Notice.{Notice as Told}
 use Rattle.sheet.specs.declared.Span.{Span}
-use Rattle.reading.specs.State.{Part, State, Result, Step, refused, goes, ends, part_at, with_part, with_parts, with_notes, with_notices}
+use Rattle.reading.specs.State.{State, Result, Step, refused, goes, ends, part_at, with_part, with_parts, with_notes, with_notices}
+use Rattle.reading.specs.declared.Part.{Part}
 use Rattle.reading.specs.Notices.{Token, span_of_token, quiet, after, keep, notify, notify_signifiers}
 use Rattle.reading.specs.Header.{by_key, key_span, value_span, read_reference, notice_others}
 use Rattle.reading.specs.Star.{applied, heeded, interpret, column_by, paired, read_columns}

@@ -1,5 +1,4 @@
 -- What an interpretation changes in its part, apart from the state.
-use Rattle.std.specs.Prelude.{ℕ, ◌%◌, cond, eqb}
 use Rattle.std.specs.Int.{w8, cast_unsigned}
 use Rattle.interpretation.specs.declared.Interpretation.{Interpretation}
 use Rattle.interpretation.specs.declared.Interpretation.TheVariants.{Nothing, Clef, Key, Meter, Symbol, Tempo, Name, ShortName, Mode}
@@ -7,12 +6,8 @@ use Rattle.interpretation.specs.Clef.{clef_number}
 use Rattle.interpretation.specs.Key.{mode_number}
 use Rattle.interpretation.specs.Meter.{symbol_number}
 use Rattle.sheet.specs.declared.Span.{Span}
-use Rattle.reading.specs.State.{Part}
+use Rattle.reading.specs.declared.Part.{Part}
 use Rattle.reading.specs.Star.{barring, naming, shortening, moding, with_clef, with_key, with_meter, with_symbol, with_bar_tempo}
-
--- the mode of the bar, by its cell for the key
-unfoldable pub bar_mode : ℕ → ℕ → ℕ
-bar_mode key mode = cond (eqb (key % 256) 1) mode 0
 
 -- the part after an interpretation, whose name, if it is one, stands at a span
 abbrev pub changed : Interpretation → Span → Part → Part

@@ -11,6 +11,7 @@ use Rattle.sheet.specs.Record.{Record, NOTICE}
 use Rattle.sheet.specs.declared.Notice.{Notice}
 use Rattle.sheet.specs.declared.Span.{Span}
 use Rattle.reading.specs.State.{State, goes, with_notices}
+use Rattle.reading.specs.declared.Part.{Part}
 use Rattle.reading.specs.Notices.{quiet, keep, notify}
 use Rattle.state.specs.declared.Tally.{Tally}
 use Rattle.state.specs.Lay.{laid, behind}
@@ -42,7 +43,7 @@ module _ (t : Tally) (n : Notice) (bytes : List ℕ) where
       go true = refl
       go false = refl
 
-module _ (cells parts : List ℕ) (t : Tally) (n : Notice) (bytes : List ℕ) where
+module _ (cells : List ℕ) (parts : List Part) (t : Tally) (n : Notice) (bytes : List ℕ) where
   pub kept_state : state_of cells parts (after_kept t n bytes) ≡ (keep n bytes (state_of cells parts t)).state
   unfolding after_kept keep
   kept_state = go (ltb t.notices 1024)
@@ -71,7 +72,7 @@ module _ (cells parts : List ℕ) (t : Tally) (n : Notice) (bytes : List ℕ) wh
       ∙ ap (λ (rs : List Record). going (keep n bytes (state_of cells parts t)).state (behind t.at rs) (laid out t.at rs)) kept_records_lem
 
 -- the same for a notice on a line and a column
-pub notify_told : (cells parts : List ℕ) (t : Tally) (number k column : ℕ) (value : Span) (out : List ℕ)
+pub notify_told : (cells : List ℕ) (parts : List Part) (t : Tally) (number k column : ℕ) (value : Span) (out : List ℕ)
     → told (Ok (after_kept t (notice_of number k column value) [])) cells parts (laid out t.at (kept_records t (notice_of number k column value) []))
     ≡ landed (goes (notify number k column value (state_of cells parts t))) out t.at
 unfolding notify

@@ -1,15 +1,10 @@
--- The parts from p on decide: those before have no note.
-use Rattle.bars.proofs.NotedLaws.{noting_first, noting_found, noting_turn, noting_past}
+-- `any` asks part by part.
+use Rattle.std.proofs.Common.{◌∙◌, rules, tests}
+use Rattle.std.proofs.lemmas.Iterator.{YieldsList-from_slice}
+use Rattle.std.proofs.lemmas.Iterator.Search.{any_from_yields_List}
+use Rattle.reading.specs.declared.Part.{Part}
+use Rattle.bars.proofs.LoopLaws.{any_noted_lem}
 use Rattle.bars.proofs.any_noted.Goals as goal
 
-pub loop-p-init : goal.loop-p-init
-loop-p-init c = noting_first
-
-pub returns-then-parts-p-eq1 : goal.returns-then-parts-p-eq1
-returns-then-parts-p-eq1 c = noting_found c.loop-p.invariant c.loop-p-test.true c.if-parts-p-eq1.true
-
-pub loop-p-preserved : goal.loop-p-preserved
-loop-p-preserved c = noting_turn c.loop-p.invariant c.loop-p-test.true c.if-parts-p-eq1.false
-
 pub returns : goal.returns
-returns c = noting_past c.loop-p.invariant c.loop-p-test.false
+returns c = any_from_yields_List (λ (p : Part). p.noted) _ _ _ c.any.ensures.ran (YieldsList-from_slice c.args.parts.now cc) (λ x b q k. search (rules, tests)) ∙ any_noted_lem c.args.parts.now

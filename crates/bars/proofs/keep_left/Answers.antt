@@ -1,20 +1,11 @@
--- The parts before p have their left barline.
-use mathlib.Core.Path.{◌≡◌, refl, sym, ◌∙◌}
-use Prim.Native.Nat.{◌+◌, ◌*◌, ◌-◌}
-use native.Mathlib.Omega.{arith}
-use Rattle.bars.proofs.MarchLaws.{march_first, march_turn, march_past}
+-- Each part has its left barline.
+use Rattle.std.proofs.Common.{refl}
+use Rattle.reading.specs.Bars.{left_anew}
+use Rattle.bars.proofs.LoopLaws.{marched_turn, marched_past}
 use Rattle.bars.proofs.keep_left.Goals as goal
 
-pub loop-p-init : goal.loop-p-init
-loop-p-init c = march_first c.requires.0
-
-pub loop-p-preserved : goal.loop-p-preserved
-loop-p-preserved c = let p = c.loop-p.p in
-    let z : (p * 35 + 35) - p * 35 ≡ 35 = omega arith in
-    march_turn _ _ _ c.loop-p.invariant c.requires.1 c.loop-p-test.true refl z c.set_left.auto.cells c.set_left.ensures
-
-pub shape_of-parts : goal.shape_of-parts
-shape_of-parts c = c.loop-p.invariant.long ∙ sym c.requires.0
+pub loop-part-preserved : goal.loop-part-preserved
+loop-part-preserved c = marched_turn (left_anew c.args.left) c.args.parts.now c.loop-part.parts c.loop-part.part-index _ c.loop-part-test.true c.loop-part.auto.parts c.loop-part.invariant refl
 
 pub returns : goal.returns
-returns c = march_past c.loop-p.invariant c.loop-p-test.false
+returns c = marched_past (left_anew c.args.left) c.args.parts.now c.loop-part.parts c.loop-part.part-index c.loop-part-test.false c.loop-part.invariant

@@ -1,11 +1,7 @@
--- The parts before p have their left barline.
-use Prim.Native.Nat.{◌-◌}
+-- The parts before the index have their left barline.
+use Rattle.bars.proofs.LoopLaws.{Marched}
 use Rattle.reading.specs.Bars.{left_anew}
-use Rattle.bars.proofs.MarchLaws.{Marching}
 use Rattle.bars.proofs.keep_left.Given as goal
 
-abbrev pub invariant-loop-p : goal.invariant-loop-p
-invariant-loop-p l = Marching (left_anew l.left) l.count l.initial.parts l.parts l.p
-
-abbrev pub decreases-loop-p : goal.decreases-loop-p
-decreases-loop-p l = l.count - l.p
+abbrev pub invariant-loop-part : goal.invariant-loop-part
+invariant-loop-part l = Marched (left_anew l.left) l.initial.parts l.parts l.part-index

@@ -60,10 +60,7 @@ pub loop-i-smaller : goal.loop-i-smaller
 loop-i-smaller c = omega (arith, c.loop-i-test.true)
 
 pub loop-i-preserved : goal.loop-i-preserved
-loop-i-preserved c = (omega (arith, c.loop-i.invariant.0), λ offset. note_turn (c.loop-i.invariant.1 offset) c.loop-i-test.true c.if-line-from.false c.in-Some.ensures c.in-Note.is c.if-cell-lt8.false (c.at_once.ensures (c.if-not-at_once.false)) c.spot_at-spot.ensures c.write_plain-at.ensures c.write_plain-at.auto.parts c.write_plain-at.auto.out)
-
-pub shape_of-parts-after-loop-i : goal.shape_of-parts-after-loop-i
-shape_of-parts-after-loop-i c = (c.loop-i.invariant.1 0).long
+loop-i-preserved c = (omega (arith, c.loop-i.invariant.0), λ offset. note_turn (c.loop-i.invariant.1 offset) c.loop-i-test.true c.if-line-from.false c.in-Some.ensures c.in-Note.is c.if-cell-lt8.false (c.at_once.ensures (c.if-not-at_once.false)) c.spot_at-spot.ensures c.write_plain-at.ensures c.write_plain-at.auto.out)
 
 pub shape_of-out-after-loop-i : goal.shape_of-out-after-loop-i
 shape_of-out-after-loop-i c = (c.loop-i.invariant.1 0).wide
@@ -71,26 +68,17 @@ shape_of-out-after-loop-i c = (c.loop-i.invariant.1 0).wide
 pub returns-after-loop-i : goal.returns-after-loop-i
 returns-after-loop-i c = λ offset. stretch_ends c.loop-i.invariant.0 (c.loop-i.invariant.1 offset)
 
-pub shape_of-parts-then-line-from : goal.shape_of-parts-then-line-from
-shape_of-parts-then-line-from c = (c.loop-i.invariant.1 0).long
-
 pub shape_of-out-then-line-from : goal.shape_of-out-then-line-from
 shape_of-out-then-line-from c = (c.loop-i.invariant.1 0).wide
 
 pub returns-then-line-from : goal.returns-then-line-from
 returns-then-line-from c = λ offset. stretch_ends c.loop-i.invariant.0 (c.loop-i.invariant.1 offset)
 
-pub shape_of-parts-in_default : goal.shape_of-parts-in_default
-shape_of-parts-in_default c = (c.loop-i.invariant.1 0).long
-
 pub shape_of-out-in_default : goal.shape_of-out-in_default
 shape_of-out-in_default c = (c.loop-i.invariant.1 0).wide
 
 pub returns-in_default : goal.returns-in_default
 returns-in_default c = λ offset. stretch_ends c.loop-i.invariant.0 (c.loop-i.invariant.1 offset)
-
-pub shape_of-parts-then-not-at_once : goal.shape_of-parts-then-not-at_once
-shape_of-parts-then-not-at_once c = (c.loop-i.invariant.1 0).long
 
 pub shape_of-out-then-not-at_once : goal.shape_of-out-then-not-at_once
 shape_of-out-then-not-at_once c = (c.loop-i.invariant.1 0).wide

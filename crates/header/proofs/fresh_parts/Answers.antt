@@ -1,20 +1,13 @@
--- The parts passed are fresh.
-use mathlib.Core.Path.{sym, ◌∙◌}
-use native.Mathlib.Omega.{arith}
-use Rattle.header.proofs.FreshLaws.{freshening_first, freshening_turn, freshening_past}
+-- The parts before p are fresh.
+use Rattle.std.proofs.Common.{◌∙◌, arith}
+use Rattle.header.proofs.FreshLaws.{freshened_turn, all_fresh}
 use Rattle.header.proofs.fresh_parts.Goals as goal
 
 pub loop-p-init : goal.loop-p-init
-loop-p-init c = freshening_first c.requires.0
-
-pub lay_part-requires : goal.lay_part-requires
-lay_part-requires c = (c.loop-p.invariant.kept, omega arith)
+loop-p-init c = λ k h. absurd (omega arith)
 
 pub loop-p-preserved : goal.loop-p-preserved
-loop-p-preserved c = freshening_turn c.loop-p.invariant c.requires.1 c.loop-p-test.true c.lay_part.auto.parts c.lay_part.ensures
-
-pub shape_of-parts : goal.shape_of-parts
-shape_of-parts c = c.loop-p.invariant.kept ∙ sym c.requires.0
+loop-p-preserved c = freshened_turn c.loop-p.parts c.loop-p.invariant (omega (arith, c.loop-p.auto.parts, c.loop-p-test.true)) c.fresh_part.ensures
 
 pub returns : goal.returns
-returns c = freshening_past c.loop-p.invariant c.loop-p-test.false
+returns c = λ ks e. all_fresh c.loop-p.invariant (omega (arith, c.loop-p.auto.parts, c.loop-p-test.false)) ks (c.loop-p.auto.parts ∙ e)

@@ -1,10 +1,6 @@
--- The parts passed are fresh.
-use Prim.Native.Nat.{◌-◌}
-use Rattle.header.proofs.FreshLaws.{Freshening}
+-- The parts before p are fresh.
+use Rattle.header.proofs.FreshLaws.{Freshened}
 use Rattle.header.proofs.fresh_parts.Given as goal
 
 abbrev pub invariant-loop-p : goal.invariant-loop-p
-invariant-loop-p l = Freshening l.n l.parts l.p
-
-abbrev pub decreases-loop-p : goal.decreases-loop-p
-decreases-loop-p l = l.n - l.p
+invariant-loop-p l = Freshened l.parts l.p

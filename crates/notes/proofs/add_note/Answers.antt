@@ -4,6 +4,7 @@ use native.Mathlib.Omega.{arith}
 use Rattle.sheet.specs.declared.Note.{Note as NoteWritten}
 use Rattle.token.proofs.FewLaws.{gives}
 use Rattle.state.specs.View.{state_of}
+use Rattle.notes.proofs.BeamLaws.{part_sounded}
 use Rattle.notes.proofs.TokenLaws.{note_added, note_refused, note_same}
 use Rattle.notes.proofs.add_note.Goals as goal
 
@@ -15,13 +16,16 @@ note_at-note-requires c = let g = gives c.args.token.now in
 
 pub write_note-at-requires : goal.write_note-at-requires
 write_note-at-requires c = record {
-      pitches = ap (λ (x : NoteWritten). x.pitches) c.note_at-note.ensures ∙ c.requires.1.0;
-      articulations = ap (λ (x : NoteWritten). x.articulations) c.note_at-note.ensures ∙ c.requires.1.1;
-      alone = tt;
-    }
+  pitches = ap (λ (x : NoteWritten). x.pitches) c.note_at-note.ensures ∙ c.requires.1.0;
+  articulations = ap (λ (x : NoteWritten). x.articulations) c.note_at-note.ensures ∙ c.requires.1.1;
+  alone = tt;
+}
 
 pub returns-then-room : goal.returns-then-room
-returns-then-room c = (λ cells. note_added cells c.args.parts.now c.sound_part-beam.new.parts c.args.token.now c.args.n c.args.spot (omega arith) c.notify_inferred-t.ensures c.beam_letters-letters.ensures c.sound_part-beam.ensures.0 c.sound_part-beam.ensures.1 c.note_at-note.ensures c.write_note-at.ensures.0 c.write_note-at.ensures.1 c.with_note.ensures, note_same c.notify_inferred-t.ensures.same c.with_note.ensures)
+returns-then-room c = let same = c.notify_inferred-t.ensures.same in
+    let l = c.beam_letters-letters.result in
+    let g = part_sounded c.notify_inferred-t.result.parts c.args.spot.part c.args.spot.voice l.starts l.ends _ c.args.parts.now (omega (arith, same.parts, c.requires.0.part_in)) (omega (arith, same.parts, c.requires.0.parts_few, c.told-parts)) c.sound-beam.ensures in
+    (λ cells. note_added cells c.args.parts.now _ c.args.token.now c.args.n c.args.spot (omega arith) c.notify_inferred-t.ensures c.beam_letters-letters.ensures g.0 g.1 c.note_at-note.ensures c.write_note-at.ensures.0 c.write_note-at.ensures.1 c.with_note.ensures, note_same same c.with_note.ensures)
 
 pub returns : goal.returns
 returns c = (λ cells. note_refused c.args.spot.part c.args.spot.voice c.args.spot.line c.args.spot.column c.args.spot.at c.args.token.now c.args.n (state_of cells c.args.parts.now c.args.tally) c.args.out.now c.args.tally.at c.if-room.false, tt)

@@ -22,7 +22,7 @@ pub add_note-requires : goal.add_note-requires
 add_note-requires c = let p = c.requires in
     let k = c.signify-t.ensures.same in
     let l = heard_lists c.args.token.now c.args.inferred (c.kern_token.ensures ∙ ap (λ (x : Scan). outcome_of x c.args.inferred) c.scan_token-scan.ensures) (c.in-Ok-Some.is ∙ ap Ok c.in-Ok-Some.field-0-is) in
-    (record { short = p.short; parts_long = p.parts_long; parts_few = omega (arith, k.parts, p.parts_few); bars_few = omega (arith, k.bars, p.bars_few); part_in = omega (arith, k.parts, p.part_in); voice_in = p.voice_in }, (l.pitches, l.articulations))
+    (record { short = p.short; parts_few = omega (arith, k.parts, p.parts_few); bars_few = omega (arith, k.bars, p.bars_few); part_in = omega (arith, k.parts, p.part_in); voice_in = p.voice_in }, (l.pitches, l.articulations))
 
 pub returns-in-Ok-Some : goal.returns-in-Ok-Some
 returns-in-Ok-Some c = (λ cells. heard_step cells c.args.parts.now c.args.token.now c.args.inferred c.args.spot c.is_null.ensures c.if-is_null.false c.scan_token-scan.ensures c.signify-t.ensures c.kern_token.ensures (c.in-Ok-Some.is ∙ ap Ok c.in-Ok-Some.field-0-is) (c.add_note.ensures.0 cells), kept_same c.signify-t.ensures.same c.add_note.result c.add_note.ensures.1)

@@ -7,6 +7,7 @@ use Rattle.token.proofs.FewLaws.{gives}
 use Rattle.state.specs.Lay.{laid, behind}
 use Rattle.writing.specs.Kept.{note_record}
 use Rattle.notes.specs.Spot.{note_at}
+use Rattle.notes.proofs.BeamLaws.{part_sounded}
 use Rattle.notes.proofs.PlainLaws.{plain_lists, plain_alone}
 use Rattle.notes.proofs.write_plain.Goals as goal
 
@@ -25,9 +26,10 @@ write_note-requires c = let l = plain_lists c.requires.1 in
     }
 
 pub returns : goal.returns
-returns c = let is = c.note_at-note.ensures ∙ ap (note_at c.args.p.note c.args.spot c.args.tally.bars) c.sound_part-beam.ensures.1 in
+returns c = let g = part_sounded c.args.tally.parts _ c.args.spot.voice c.args.p.starts c.args.p.ends _ c.args.parts.now c.requires.0.part_in (omega (arith, c.requires.0.parts_few, c.told-parts)) c.sound-beam.ensures in
+    let is = c.note_at-note.ensures ∙ ap (note_at c.args.p.note c.args.spot c.args.tally.bars) g.1 in
     record {
-      sounds = c.sound_part-beam.ensures.0;
+      sounds = g.0;
       lays = c.write_note.ensures.0 ∙ ap (λ (x : NoteWritten). laid c.args.out.now c.args.at (note_record x c.args.token.now ∷ [])) is;
       ends = c.write_note.ensures.1 ∙ ap (λ (x : NoteWritten). behind c.args.at (note_record x c.args.token.now ∷ [])) is;
     }

@@ -1,4 +1,5 @@
-use mathlib.Core.Path.{sym}
+use mathlib.Core.Path.{refl, sym}
+use native.Mathlib.Omega.{arith}
 use Rattle.records.proofs.KindLaws.{row_length, bar_told}
 use Rattle.records.proofs.bar_of.Goals as goal
 
@@ -6,4 +7,7 @@ pub slice_bounds-read_bar-end : goal.slice_bounds-read_bar-end
 slice_bounds-read_bar-end c = sym (row_length c.requires.0)
 
 pub returns : goal.returns
-returns c = bar_told c.requires.0 c.args.line.now c.requires.1.1 c.read_bar-closed.result c.with_active.result _ _ c.args.out.now c.requires.1.0 c.with_active.ensures c.read_bar-closed.ensures
+returns c = record {
+  told = bar_told c.args.parts.now c.requires.0 c.args.line.now c.requires.1.1 c.read_bar-closed.result _ _ _ c.args.out.now c.requires.1.0 refl c.read_bar-closed.ensures.told;
+  few = omega (arith, c.read_bar-closed.ensures.kept, c.requires.0.ready.parts_few);
+}

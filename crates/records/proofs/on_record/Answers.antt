@@ -4,15 +4,21 @@ use Rattle.records.proofs.RecordLaws.{behind_header, at_header}
 use Rattle.records.proofs.on_record.Goals as goal
 
 pub returns-then-begun : goal.returns-then-begun
-returns-then-begun c = behind_header c.args.begun _ c.args.line.now c.args.out.now (take c.args.tally.active c.args.row.now) c.args.parts.now c.args.tally c.args.number c.args.offset c.if-begun.true c.read_record.ensures
+returns-then-begun c = record { told = behind_header c.args.begun _ c.args.line.now c.args.out.now (take c.args.tally.active c.args.row.now) c.args.parts.now c.args.tally c.args.number c.args.offset c.if-begun.true c.read_record.ensures.told; few = c.read_record.ensures.few }
 
 pub returns : goal.returns
 returns c =
     let cells = take c.args.tally.active c.args.row.now in
-    at_header c.args.begun _ c.args.line.now c.args.out.now cells c.args.parts.now c.args.tally c.args.number c.args.offset c.if-begun.false (rw c.in_ok-read.was at c.read_header.ensures cells)
+    record {
+      told = at_header c.args.begun _ c.args.line.now c.args.out.now cells c.args.parts.now c.args.tally c.args.number c.args.offset c.if-begun.false (rw c.in_ok-read.was at c.read_header.ensures.told cells);
+      few = rw c.in_ok-read.was at c.read_header.ensures.few;
+    }
 
 pub returns-in_err-read : goal.returns-in_err-read
 returns-in_err-read c =
     let cells = take c.args.tally.active c.args.row.now in
     let p = err_from_is_err_and c.from_residual.result c.from_residual.ensures.1 in
-    rw (p.1, p.2) (at_header c.args.begun _ c.args.line.now c.args.out.now cells c.args.parts.now c.args.tally c.args.number c.args.offset c.if-begun.false (rw c.in_err-read.was at c.read_header.ensures cells))
+    rw (p.1, p.2) (record {
+      told = at_header c.args.begun _ c.args.line.now c.args.out.now cells c.args.parts.now c.args.tally c.args.number c.args.offset c.if-begun.false (rw c.in_err-read.was at c.read_header.ensures.told cells);
+      few = tt;
+    })

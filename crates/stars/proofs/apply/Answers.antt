@@ -1,11 +1,12 @@
 -- The part changed and the first tempo are what is applied; what is not read gives its notice.
+use native.Mathlib.Omega.{arith}
 use Rattle.stars.proofs.ApplyLaws.{apply_comes, notice_comes}
 use Rattle.stars.proofs.apply.Goals as goal
 
 pub returns-in-Ok : goal.returns-in-Ok
 returns-in-Ok c =
-    apply_comes c.args.token.now c.args.p c.args.number c.args.column c.args.offset _ _ c.requires.1.0 c.requires.1.1.0 c.is_noted-noted.ensures c.interpret.ensures c.in-Ok.is c.change_part.ensures c.first_tempo.ensures
+    apply_comes c.args.token.now c.args.p c.args.number c.args.column c.args.offset _ c.args.parts.now c.args.tally c.requires.0 (omega (arith, c.requires.1.0, c.told-parts)) c.interpret.ensures c.in-Ok.is c.change.ensures c.first_tempo.ensures
 
 pub returns-in-Err : goal.returns-in-Err
 returns-in-Err c =
-    notice_comes c.args.token.now c.args.p c.args.number c.args.column c.args.offset _ _ c.requires.1.0 c.requires.1.1.0 c.is_noted-noted.ensures c.interpret.ensures c.in-Err.is c.from.ensures c.notify.ensures
+    notice_comes c.args.token.now c.args.p c.args.number c.args.column c.args.offset _ c.args.parts.now c.args.tally c.requires.0 (omega (arith, c.requires.1.0, c.told-parts)) c.interpret.ensures c.in-Err.is c.from.ensures c.notify.ensures

@@ -10,7 +10,7 @@ pub returns-then-cell-gt3 : goal.returns-then-cell-gt3
 returns-then-cell-gt3 c = in_branch c.args.cell c.args.number c.args.column (token_of c.args.offset c.args.token.now) c.if-cell-lt8.false c.if-cell-gt3.true
 
 pub apply-requires : goal.apply-requires
-apply-requires c = (c.requires.parts_long, (in_part c.requires c.if-cell-lt8.false c.if-cell-gt3.false, (c.requires.parts_few, c.requires.small)))
+apply-requires c = (in_part c.requires c.if-cell-lt8.false c.if-cell-gt3.false, (c.requires.parts_few, c.requires.small))
 
 pub returns : goal.returns
 returns c = in_line c.args.cell c.args.number c.args.column (token_of c.args.offset c.args.token.now) c.if-cell-lt8.false c.if-cell-gt3.false c.apply.ensures

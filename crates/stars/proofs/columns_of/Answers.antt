@@ -8,4 +8,4 @@ pub slice_bounds-read_columns-end : goal.slice_bounds-read_columns-end
 slice_bounds-read_columns-end c = sym (length-take-le c.args.active c.args.row.now (omega arith))
 
 pub returns : goal.returns
-returns c = (c.read_columns.ensures, length-take-le c.args.active c.args.row.now (omega arith))
+returns c = record { told = c.read_columns.ensures.told; long = length-take-le c.args.active c.args.row.now (omega arith); held = c.read_columns.ensures.held }

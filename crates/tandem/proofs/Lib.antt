@@ -1,2 +1,0 @@
--- Laws of the cells that an interpretation sets.
-pub mod CellLaws
