@@ -4,6 +4,5 @@ pub mod LengthLaws
 pub mod FirstLaws
 pub mod SoundLaws
 pub mod MarkLaws
-pub mod PassLaws
 pub mod ScanLaws
 pub mod UnknownLaws

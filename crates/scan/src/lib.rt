@@ -129,22 +129,30 @@ pub fn fits(sounding: bool, letter: u8, count: usize) -> bool
     !sounding && pitch::pitch_of(letter, count).is_some()
 }
 
-// The marks with a meaning, a bit each: those below 64, and those from 64 to 127.
-const LOW_MARKS: u64 = 0x0800438000000000;
-
-const HIGH_MARKS: u64 = 0x40160000E8121400;
-
 // Whether a mark has a meaning.
+#[tactic(auto, using(std::proofs::lemmas::Bool::Decides::nat_tests), unfolding(notation::specs::Bytes::contains))]
 fn known(b: u8) -> bool
     ensures { result ≡ contains b known }
 {
-    if b < 64 {
-        return (LOW_MARKS >> b) & 1 == 1;
-    }
-    if b < 128 {
-        return (HIGH_MARKS >> (b - 64)) & 1 == 1;
-    }
-    false
+    matches!(
+        b,
+        b'.' | b'r'
+            | b'['
+            | b']'
+            | b'_'
+            | b'('
+            | b')'
+            | b'L'
+            | b'J'
+            | b'q'
+            | b'Q'
+            | b'\''
+            | b'^'
+            | b'~'
+            | b';'
+            | b'T'
+            | b't'
+    )
 }
 
 // Whether a byte is a sign.
@@ -155,22 +163,13 @@ pub fn is_sign(b: u8) -> bool
     matches!(b, b'#' | b'-' | b'n')
 }
 
-// The unknown marks, a bit each: those below 64, and those from 64 to 127.
-const LOW_UNKNOWN: u64 = 0xF4009C56FFFFFFFF;
-
-const HIGH_UNKNOWN: u64 = 0xBFE9BF0117EDEB01;
-
 // Whether a byte is an unknown mark.
+#[tactic(auto, using(std::proofs::lemmas::Bool::Decides::nat_tests), unfolding(token::specs::Token::is_unknown, notation::specs::Bytes::contains))]
 pub fn is_unknown(b: u8) -> bool
     ensures { result ≡ is_unknown b }
 {
-    if b < 64 {
-        return (LOW_UNKNOWN >> b) & 1 == 1;
-    }
-    if b < 128 {
-        return (HIGH_UNKNOWN >> (b - 64)) & 1 == 1;
-    }
-    true
+    let item = items::is_digit(b) || items::is_letter(b) || matches!(b, b' ' | b'%');
+    !(item || is_sign(b) || known(b))
 }
 
 // The end of the unknown marks that begin at an index.
@@ -297,6 +296,7 @@ pub fn scan_token(token: &[u8]) -> Scan
         articulations: 0,
     };
     let mut i = 0;
+    // Stays: each turn goes on behind a run of its own length, which no iterator steps by.
     while i < token.len() {
         let b = token[i];
         if items::is_digit(b) {
