@@ -80,6 +80,7 @@ pub fn leading_white(s: &[u8]) -> usize
     ensures { (result ≡ leading_white s.now) × (result ≤ length s.now) }
 {
     let mut i = 0;
+    // Stays: no plainer, a step is a character of one to four bytes.
     while i < s.len() {
         let b = s[i];
         if ink(b) {
@@ -104,6 +105,7 @@ fn last_end(s: &[u8]) -> usize
 {
     let mut end = 0;
     let mut i = 0;
+    // Stays: no plainer, a step is a character of one to four bytes.
     while i < s.len() {
         if ink(s[i]) {
             i += 1;

@@ -52,28 +52,20 @@ fn behind(high: u32, s: &[u8], i: usize) -> u32
     requires { (high < 65536) × (i < length s.now) }
     ensures { result ≡ high * 64 + get_or s.now i 0 % 64 }
 {
-    high * 64 + (s[i] % 64) as u32
+    high * 64 + u32::from(s[i] % 64)
 }
 
 // The code point of the character at the front of s, 0 where none stands there.
 pub fn code_point(s: &[u8]) -> u32
     ensures { result ≡ code_point s.now }
 {
-    let n = char_length(s);
-    if n == 0 {
-        return 0;
+    match char_length(s) {
+        0 => 0,
+        1 => u32::from(s[0]),
+        2 => behind(u32::from(s[0]) % 32, s, 1),
+        3 => behind(behind(u32::from(s[0]) % 16, s, 1), s, 2),
+        _ => behind(behind(behind(u32::from(s[0]) % 8, s, 1), s, 2), s, 3),
     }
-    let a = s[0] as u32;
-    if n == 1 {
-        return a;
-    }
-    if n == 2 {
-        return behind(a % 32, s, 1);
-    }
-    if n == 3 {
-        return behind(behind(a % 16, s, 1), s, 2);
-    }
-    behind(behind(behind(a % 8, s, 1), s, 2), s, 3)
 }
 
 // The N bytes from i on, joined bit by bit.
@@ -94,6 +86,7 @@ fn blocks_64(s: &[u8], from: usize) -> usize
     ensures { Passed s.now from result }
 {
     let mut i = from;
+    // Stays: no plainer as a `for` over blocks, which would carry the same i.
     while 64 <= s.len() - i {
         if 128 <= joined::<64>(s, i) {
             return i;
@@ -118,6 +111,7 @@ fn rows<const N: usize>(s: &[u8], lo: u8, hi: u8, from: usize) -> usize
     ensures { Passed s.now from result }
 {
     let mut i = from;
+    // Stays: no plainer, a step is a character that was seen there.
     while row::<N>(s, lo, hi, i) {
         i += N;
     }
@@ -158,6 +152,7 @@ pub fn utf8_length(s: &[u8]) -> usize
     ensures { (result ≡ utf8_length s.now) × (result ≤ length s.now) }
 {
     let mut i = 0;
+    // Stays: no plainer, a step is a run as long as `onward` finds it.
     while i < s.len() {
         let next = onward(s, i);
         if next == i {
