@@ -1,7 +1,7 @@
 #![tactic(auto)]
 
-// Slices of bytes: searched, compared, and written at their start; and two tests as one.
-ghost use Rattle.std.specs.Prelude.{◌≡◌, ◌||◌, ◌≤◌, length};
+// Slices of bytes: searched, compared, and written at their start.
+ghost use Rattle.std.specs.Prelude.{◌≡◌, ◌≤◌, length};
 ghost use Rattle.slices.specs.Split.{index_of, piece_at};
 ghost use Rattle.slices.specs.Compare.{same_bytes, begins_with};
 ghost use Rattle.slices.specs.Store.{stored};
@@ -42,11 +42,4 @@ pub fn put(out: &mut [u8], bytes: &[u8])
     if bytes.len() <= out.len() {
         out[..bytes.len()].copy_from_slice(bytes);
     }
-}
-
-// Whether one of two holds.
-pub fn either(a: bool, b: bool) -> bool
-    ensures { result ≡ (a || b) }
-{
-    a || b
 }
