@@ -1,13 +1,23 @@
--- The bounds of a power of two determine its exponent: what `ilog2` gives is the definition's.
+-- The bounds of a power of two determine its exponent: what `exponent` gives is the definition's.
 use mathlib.Core.Path.{◌≡◌, sym, ◌∙◌}
 use mathlib.Core.Logic.{⊎_elim}
-use Prim.Native.Nat.{ℕ, zero, suc, ◌*◌, ◌%◌, ◌^◌, ◌≤◌, ◌<◌}
-use native.Mathlib.Nat.{pow-suc, eq-or-lt_of_le, lt_of_not-le, le_of_suc-le-suc}
+use Prim.Native.Nat.{ℕ, zero, suc, ◌+◌, ◌-◌, ◌*◌, ◌%◌, ◌^◌, ◌≤◌, ◌<◌}
+use native.Mathlib.Nat.{eq-or-lt_of_le, lt_of_not-le, le_of_suc-le-suc}
+use native.Mathlib.Numerals.{add-one}
 use native.Mathlib.Omega.{arith}
+use lib.Count.{count_leading_zeros, leading_top}
 use lib.Dec.{lit<}
 use lib.Pow.{pow_mono, shl_exact}
 use borrow.Author.Tests.{le-leb, lt-leb}
 use Rattle.duration.specs.Duration.{exponent_of}
+
+-- leading zeros and the place of the highest set bit make 31
+pub leading : (n : ℕ) → 1 ≤ n → n < 2 ^ 32
+    → (count_leading_zeros 32 n ≤ 31) × (2 ^ (31 - count_leading_zeros 32 n) ≤ n) × (n < 2 ^ (31 - count_leading_zeros 32 n + 1))
+leading n pos h =
+    let top = leading_top 32 n pos h in
+    let e : 31 - count_leading_zeros 32 n ≡ top.0 = omega (arith, top.1) in
+    (omega (arith, top.1), rw e top.2, rw (e, add-one top.0) top.3)
 
 exponent_is : (f k n : ℕ) → k ≤ f → 2 ^ k ≤ n → n < 2 ^ suc k → exponent_of f n ≡ k
 unfolding exponent_of
@@ -30,13 +40,12 @@ pub record Base (n k : ℕ) : Type 0 where
   pub power : 1 * 2 ^ k % 4294967296 ≡ 2 ^ k
   pub low : 2 ^ k ≤ n
 
-pub base : {n k : ℕ} → n ≤ 255 → 2 ^ k ≤ n → n < 2 * 2 ^ k → Base n k
-base {n} {k} h low high =
-    let up : n < 2 ^ suc k = rw pow-suc (omega arith) in
-    let s : k < 8 = exponent_small 8 k n low (omega arith) in
+pub base : {n k : ℕ} → n ≤ 255 → (2 ^ k ≤ n) × (n < 2 ^ (k + 1)) → Base n k
+base {n} {k} h b =
+    let s : k < 8 = exponent_small 8 k n b.0 (omega arith) in
     record {
       small = s;
-      is = exponent_is 7 k n (omega arith) low up;
+      is = exponent_is 7 k n (omega arith) b.0 (rw add-one at b.1);
       power = shl_exact {a = 1} 1 k 32 (lit< tt) (omega arith) ∙ (omega arith);
-      low = low;
+      low = b.0;
     }

@@ -34,6 +34,15 @@ fn parse(digits: &[u8]) -> Option<u32>
     Some(n)
 }
 
+// The exponent of the largest power of two not above n.
+// Stays: a rule of the project: the base value comes from the leading zeros, proved as the power's bounds, where `ilog2` would be shorter.
+fn exponent(n: u32) -> u32
+    requires { 1 ≤ n }
+    ensures { (2 ^ result ≤ n) × (n < 2 ^ (result + 1)) }
+{
+    31 - n.leading_zeros()
+}
+
 // The greatest common divisor.
 pub fn gcd(n: u32, d: u32) -> u32
     ensures { result ≡ gcd_of n d }
@@ -50,7 +59,7 @@ fn value_of(n: u32) -> Value
     requires { (1 ≤ n) × (n ≤ 255) }
     ensures { result ≡ written n }
 {
-    let k = n.ilog2();
+    let k = exponent(n);
     let base = 1u32 << k;
     let value = (k + 2) as u8;
     if n == base {

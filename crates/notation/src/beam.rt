@@ -33,20 +33,18 @@ pub struct Letters {
 
 impl Beam {
     // The state goes in, and comes back with the note's mark.
-    pub fn next(self, starts: bool, ends: bool) -> Beamed
+    pub fn next(mut self, starts: bool, ends: bool) -> Beamed
         ensures { result ≡ beamed self.held starts ends }
     {
-        let (mark, held) = match (starts, ends, self.held) {
+        let mark;
+        (mark, self.held) = match (starts, ends, self.held) {
             (true, true, _) => (Mark::None, false),
             (true, false, _) => (Mark::Begin, true),
             (false, true, true) => (Mark::End, false),
             (false, false, true) => (Mark::Continue, true),
             (false, _, false) => (Mark::None, false),
         };
-        Beamed {
-            mark,
-            state: Beam { held },
-        }
+        Beamed { mark, state: self }
     }
 }
 
