@@ -1,4 +1,5 @@
 -- The rows of a text's taken records: "Notes of one record never share part and voice", and every trace ends in one part; for every text.
+use Rattle.std.proofs.Common.{Ok, Err}
 use Prim.Native.Nat.{ℕ, zero, suc, ◌+◌, ◌<◌, ◌≤◌}
 use native.Mathlib.Omega.{arith}
 use mathlib.Core.Bool.{Bool, true, false, cond}
@@ -19,9 +20,8 @@ use Rattle.paths.specs.Text.{header_row, reading, read_to}
 use Rattle.paths.specs.Trace.{part, columns}
 use Rattle.paths.specs.Voices.{Outcome, next, mixed, voiceless, wide}
 use Rattle.paths.proofs.Demand.{demand}
-use Rattle.repair.specs.Repair.{repaired, repaired_of}
-use Rattle.repair.specs.declared.Repaired.{Repaired}
-use Rattle.repair.specs.declared.Repaired.TheVariants.{Uneven, Mixed, Even}
+use Rattle.repair.specs.Repair.{repaired, Repaired, repaired_of}
+use Rattle.repair.specs.declared.Unrepaired.TheVariants.{Uneven, Mixed}
 use Rattle.sheet.specs.Player.{Noted, notes_of}
 use Rattle.sheet.specs.Record.{Record}
 use Rattle.reading.specs.Header.{fresh_parts}
@@ -179,9 +179,9 @@ module _ (h : List Bool) (recs : ℕ → Rec) where
       even : (o : Repaired) → repaired_of (length (s ∷ row)) (tokens_of x.bytes) ≡ o
           → ((row : List Spine) → At h recs (suc n) row → Follows recs (suc n) (length row) rs → Sound (suc n) x.number (taken_from row rs))
           → Sound n k (where_even o (where_next (row_after (kind_of x.bytes) ts (s ∷ row)) one))
-      even (Uneven c) e later = tt
-      even Mixed e later = tt
-      even (Even p) e later =
+      even (Err (Uneven c)) e later = tt
+      even (Err Mixed) e later = tt
+      even (Ok p) e later =
           onward (row_after (kind_of x.bytes) ts (s ∷ row)) refl (reads_on h recs n (s ∷ row) at x.bytes (omega arith) i e (follows_first f)) later
 
   -- the items of one taken record

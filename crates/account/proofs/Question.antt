@@ -1,5 +1,6 @@
 -- Questions 17 and 8, over the whole text: a star record reached behind the header is refused with 17 exactly where a run of `*v` mixes origins, and
 -- else with 8 exactly where a part would hold over four lines.
+use Rattle.std.proofs.Common.{Ok}
 use Prim.Native.Nat.{ℕ, suc, ◌+◌, ◌<◌, ◌≤◌}
 use native.Mathlib.Omega.{arith}
 use mathlib.Core.Bool.{Bool, true, false, cond, ◌||◌}
@@ -18,7 +19,6 @@ use Rattle.utf8.specs.Utf8.{utf8_length}
 use Rattle.repair.specs.Record.{record_of}
 use Rattle.repair.specs.Repair.{repaired, repaired_of}
 use Rattle.repair.specs.declared.Repair.{Repair}
-use Rattle.repair.specs.declared.Repaired.TheVariants.{Even}
 use Rattle.repair.proofs.WidthLaws.{even_width, record_tokens_lem}
 use Rattle.paths.specs.Demand.{At, Fits}
 use Rattle.paths.specs.Record.{Rec, star, tokens}
@@ -116,7 +116,7 @@ stopped k offset (l ∷ ls) = stopped_line k offset l ls (stopped (k + 1) (offse
 -- ---- a star record that is reached
 
 module _ (h : List Bool) (recs : ℕ → Rec) (n : ℕ) (st : State) (bytes : List ℕ) (at : At h recs n st.row) (first : recs n ≡ record_of (length st.row) bytes)
-    (is_star_lem : kind_of bytes ≡ Star) (some_spine : 0 < length st.row) (p : Repair) (even : repaired_of (length st.row) (tokens_of bytes) ≡ Even p) where
+    (is_star_lem : kind_of bytes ≡ Star) (some_spine : 0 < length st.row) (p : Repair) (even : repaired_of (length st.row) (tokens_of bytes) ≡ Ok p) where
   abbrev star_tokens : List (List ℕ)
   star_tokens = repaired (length st.row) (tokens_of bytes)
 

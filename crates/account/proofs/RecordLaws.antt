@@ -1,4 +1,5 @@
 -- One record behind the header: the NOTEs that the reading gives of it play its note tokens, and what comes after it is what the text says.
+use Rattle.std.proofs.Common.{Ok, Err}
 use Prim.Native.Nat.{ℕ, suc, ◌+◌, ◌<◌}
 use native.Mathlib.Omega.{arith}
 use mathlib.Core.Bool.{Bool, true, false, cond, ◌||◌}
@@ -19,10 +20,9 @@ use Rattle.paths.specs.Text.{reading}
 use Rattle.paths.specs.Token.{path_token}
 use Rattle.paths.specs.Trace.{part}
 use Rattle.paths.specs.Voices.{Outcome, next, mixed, voiceless, wide, step_row}
-use Rattle.repair.specs.Repair.{repaired, repaired_of}
+use Rattle.repair.specs.Repair.{repaired, Repaired, repaired_of}
 use Rattle.repair.specs.declared.Repair.{Repair}
-use Rattle.repair.specs.declared.Repaired.{Repaired}
-use Rattle.repair.specs.declared.Repaired.TheVariants.{Uneven, Mixed, Even}
+use Rattle.repair.specs.declared.Unrepaired.TheVariants.{Uneven, Mixed}
 use Rattle.sheet.specs.Player.{notes_of}
 use Rattle.sheet.specs.Record.{BAR}
 use Rattle.reading.specs.State.{State, Result, Step, refused, goes, ends, with_parts}
@@ -253,7 +253,7 @@ behind_ends q f r = go (f q.state)
 -- ---- a record that is taken
 
 -- it is the first of the rows that the text says
-pub taken_one : (x : Numbered) (rs : List Numbered) (row after : List Spine) {r : Repair} → 0 < length row → repaired_of (length row) (tokens_of x.bytes) ≡ Even r
+pub taken_one : (x : Numbered) (rs : List Numbered) (row after : List Spine) {r : Repair} → 0 < length row → repaired_of (length row) (tokens_of x.bytes) ≡ Ok r
     → row_after (kind_of x.bytes) (repaired (length row) (tokens_of x.bytes)) row ≡ next after
     → taken_from row (x ∷ rs)
     ≡ record { number = x.number; kind = kind_of x.bytes; tokens = repaired (length row) (tokens_of x.bytes); row = row } ∷ taken_from after rs
@@ -281,7 +281,7 @@ module _ (h : List Bool) (recs : ℕ → Rec) where
     pub rest_is : rest n st (x ∷ rs) ≡ items ++ rest (suc n) r.state rs
 
   module _ (n : ℕ) (st : State) (x : Numbered) (rs : List Numbered) (r : Result) (here : Stands n st (x ∷ rs)) (is_record_lem : is_record (kind_of x.bytes) ≡ true) where
-    went_by : {p : Repair} → 0 < length st.row → repaired_of (length st.row) (tokens_of x.bytes) ≡ Even p
+    went_by : {p : Repair} → 0 < length st.row → repaired_of (length st.row) (tokens_of x.bytes) ≡ Ok p
         → TookFrom h recs (kind_of x.bytes) n x.number (repaired (length st.row) (tokens_of x.bytes)) st r → Went n st x rs r
     unfolding account_from
     went_by l e t = record {
@@ -295,7 +295,7 @@ module _ (h : List Bool) (recs : ℕ → Rec) where
         at' : At h recs (suc n) r.state.row
         at' = reads_on h recs n st.row here.at x.bytes l is_record_lem e (follows_first here.follows) ∙ ap reading t.row_is
 
-    went_even : {p : Repair} (offset : ℕ) → 0 < length st.row → repaired_of (length st.row) (tokens_of x.bytes) ≡ Even p
+    went_even : {p : Repair} (offset : ℕ) → 0 < length st.row → repaired_of (length st.row) (tokens_of x.bytes) ≡ Ok p
         → behind (notice_repair p x.number offset x.bytes st)
         (by_kind (kind_of x.bytes) x.number (placed offset (repaired (length st.row) (tokens_of x.bytes)))) ≡ goes r → Went n st x rs r
     went_even {p} offset l e g = went_by l e (subst (TookFrom h recs kind n k ts st) parts.2 (behind_took h recs kind n k ts st q parts.0 a took))
@@ -326,9 +326,9 @@ module _ (h : List Bool) (recs : ℕ → Rec) where
       where
         even : 0 < length st.row → (o : Repaired) → repaired_of (length st.row) (tokens_of x.bytes) ≡ o
             → by_repair o x.number offset x.bytes (placed offset (repaired (length st.row) (tokens_of x.bytes))) st ≡ goes r → Went n st x rs r
-        even l (Uneven c) q g = clash cc
-        even l Mixed q g = clash cc
-        even l (Even p) q g = went_even offset l q g
+        even l (Err (Uneven c)) q g = clash cc
+        even l (Err Mixed) q g = clash cc
+        even l (Ok p) q g = went_even offset l q g
 
         by_row : (row : List Spine) → st.row ≡ row → on_row row x.number offset x.bytes st ≡ goes r → Went n st x rs r
         by_row [] e g = clash cc
@@ -345,9 +345,9 @@ module _ (h : List Bool) (recs : ℕ → Rec) where
         result u e = cc
 
         even : (o : Repaired) (us : List Token) → by_repair o x.number offset x.bytes us st ≡ ends r → ⊥
-        even (Uneven c) us g = clash cc
-        even Mixed us g = clash cc
-        even (Even p) us g =
+        even (Err (Uneven c)) us g = clash cc
+        even (Err Mixed) us g = clash cc
+        even (Ok p) us g =
             let q : Result = notice_repair p x.number offset x.bytes st in
             let a : Adds st q [] = repair_adds p x.number offset x.bytes st in
             let u : (u : Result) × (by_kind (kind_of x.bytes) x.number us q.state ≡ ends u) = behind_ends q (by_kind (kind_of x.bytes) x.number us) r g in

@@ -1,4 +1,5 @@
 -- Where a line is refused: by one of the questions 1 to 12 or by 17, with its own number, and questions 17 and 8 stop star records only.
+use Rattle.std.proofs.Common.{Ok, Err}
 use Prim.Native.Nat.{ℕ, suc, ◌+◌, ◌<◌, ◌≤◌}
 use native.Mathlib.Omega.{arith}
 use mathlib.Core.Bool.{Bool, true, false, cond, not}
@@ -19,10 +20,9 @@ use Rattle.paths.specs.Row.{Spine, line, branch, outside}
 use Rattle.paths.specs.Token.{path_token}
 use Rattle.paths.specs.Voices.{Outcome as RowOutcome, next, mixed, voiceless, wide, step_row}
 use Rattle.paths.specs.Text.{Reading, reached, ended, refused as refusedRow, reading}
-use Rattle.repair.specs.Repair.{each, repaired, repaired_of}
+use Rattle.repair.specs.Repair.{each, repaired, Repaired, repaired_of}
 use Rattle.repair.specs.declared.Repair.{Repair}
-use Rattle.repair.specs.declared.Repaired.{Repaired}
-use Rattle.repair.specs.declared.Repaired.TheVariants.{Uneven, Mixed, Even}
+use Rattle.repair.specs.declared.Unrepaired.TheVariants.{Uneven, Mixed}
 use Rattle.reading.specs.State.{State, Result, Step, refused, goes, ends}
 use Rattle.reading.specs.Notices.{Token, quiet, placed}
 use Rattle.reading.specs.Header.{any_kern, read_header}
@@ -44,7 +44,7 @@ pub record StarStopped (begun : Bool) (bytes : List ℕ) (st : State) (n f : ℕ
   pub is_star_lem : kind_of bytes ≡ Star
   pub some_spine : 0 < length st.row
   pub repair : Repair
-  pub even : repaired_of (length st.row) (tokens_of bytes) ≡ Even repair
+  pub even : repaired_of (length st.row) (tokens_of bytes) ≡ Ok repair
   pub stops : star_reading st (repaired (length st.row) (tokens_of bytes)) ≡ refusedRow n f
 
 -- a question of the reading
@@ -159,7 +159,7 @@ stops_map k P Q (goes r) i e = tt
 stops_map k P Q (ends r) i e = tt
 
 module _ (k offset : ℕ) (bytes : List ℕ) (st : State) where
-  even_stops : (p : Repair) → 0 < length st.row → repaired_of (length st.row) (tokens_of bytes) ≡ Even p → (kind : Kind) → kind_of bytes ≡ kind
+  even_stops : (p : Repair) → 0 < length st.row → repaired_of (length st.row) (tokens_of bytes) ≡ Ok p → (kind : Kind) → kind_of bytes ≡ kind
       → Stops k (StarStopped true bytes st) (behind (notice_repair p k offset bytes st) (by_kind kind k (placed offset (repaired (length st.row) (tokens_of bytes)))))
   even_stops p l e kind i = behind_stops k (StarStopped true bytes st) q (by_kind kind k us) (go kind i)
     where
@@ -198,9 +198,9 @@ module _ (k offset : ℕ) (bytes : List ℕ) (st : State) where
     where
       by_repair_lem : 0 < length st.row → (o : Repaired) → repaired_of (length st.row) (tokens_of bytes) ≡ o
           → Stops k (StarStopped true bytes st) (by_repair o k offset bytes (placed offset (repaired (length st.row) (tokens_of bytes))) st)
-      by_repair_lem l (Uneven c) e = other k (StarStopped true bytes st) 6 c (omega arith) (omega arith) (λ x. omega arith)
-      by_repair_lem l Mixed e = other k (StarStopped true bytes st) 7 0 (omega arith) (omega arith) (λ x. omega arith)
-      by_repair_lem l (Even p) e = even_stops p l e (kind_of bytes) refl
+      by_repair_lem l (Err (Uneven c)) e = other k (StarStopped true bytes st) 6 c (omega arith) (omega arith) (λ x. omega arith)
+      by_repair_lem l (Err Mixed) e = other k (StarStopped true bytes st) 7 0 (omega arith) (omega arith) (λ x. omega arith)
+      by_repair_lem l (Ok p) e = even_stops p l e (kind_of bytes) refl
 
       by_row : (row : List Spine) → st.row ≡ row → Stops k (StarStopped true bytes st) (on_row row k offset bytes st)
       by_row [] e = tt
@@ -249,7 +249,7 @@ read_star_lem k ts us st e =
     go (voiceless p) c = refl
     go (wide n) c = refl
 
-pub star_is : (k offset : ℕ) (bytes : List ℕ) (st : State) (p : Repair) → kind_of bytes ≡ Star → 0 < length st.row → repaired_of (length st.row) (tokens_of bytes) ≡ Even p
+pub star_is : (k offset : ℕ) (bytes : List ℕ) (st : State) (p : Repair) → kind_of bytes ≡ Star → 0 < length st.row → repaired_of (length st.row) (tokens_of bytes) ≡ Ok p
     → StarIs k (star_reading st (repaired (length st.row) (tokens_of bytes))) (read_line true k offset bytes st)
 star_is k offset bytes st p i l e =
     subst (StarIs k (star_reading st (repaired (length st.row) (tokens_of bytes)))) (sym (record_line true k offset bytes st (rw i) ∙ by_row st.row refl))
@@ -266,6 +266,6 @@ star_is k offset bytes st p i l e =
     by_row : (row : List Spine) → st.row ≡ row → on_row row k offset bytes st ≡ behind q (read_star k (placed offset ts))
     by_row [] r = absurd (omega (arith, ap length r))
     by_row (s ∷ row) r =
-        let even : repaired_of (length (s ∷ row)) (tokens_of bytes) ≡ Even p = ap (λ (w : ℕ). repaired_of w (tokens_of bytes)) (sym (ap length r)) ∙ e in
+        let even : repaired_of (length (s ∷ row)) (tokens_of bytes) ≡ Ok p = ap (λ (w : ℕ). repaired_of w (tokens_of bytes)) (sym (ap length r)) ∙ e in
         let same : repaired (length (s ∷ row)) (tokens_of bytes) ≡ ts = ap (λ (w : ℕ). repaired w (tokens_of bytes)) (sym (ap length r)) in
         rw (even, same, i)

@@ -1,4 +1,5 @@
 -- The rows of the reading are those that the text says: record by record, and column by column.
+use Rattle.std.proofs.Common.{Ok}
 use Prim.Native.Nat.{ℕ, zero, suc, ◌+◌, ◌<◌}
 use native.Mathlib.Omega.{arith}
 use mathlib.Core.Bool.{Bool, true, false, cond}
@@ -26,7 +27,6 @@ use Rattle.paths.proofs.TextLaws.{one_more}
 use Rattle.repair.specs.Record.{record_of}
 use Rattle.repair.specs.Repair.{repaired, repaired_of}
 use Rattle.repair.specs.declared.Repair.{Repair}
-use Rattle.repair.specs.declared.Repaired.TheVariants.{Even}
 use Rattle.repair.proofs.WidthLaws.{even_width, record_tokens_lem}
 use Rattle.reading.specs.Bars.{is_kern_spine}
 use Rattle.reading.specs.Header.{fresh_parts}
@@ -74,8 +74,8 @@ follows_rest {recs} {n} f = record { each = λ j. let z : suc n + j ≡ n + suc 
 
 module _ (h : List Bool) (recs : ℕ → Rec) where
   module _ (n : ℕ) (row : List Spine) (at : At h recs n row) (bytes : List ℕ) (some_spine : 0 < length row) (is_record_lem : is_record (kind_of bytes) ≡ true)
-      {r : Repair} (even : repaired_of (length row) (tokens_of bytes) ≡ Even r) (first : recs n ≡ record_of (length row) bytes) where
-    takes : (row : List Spine) → 0 < length row → repaired_of (length row) (tokens_of bytes) ≡ Even r
+      {r : Repair} (even : repaired_of (length row) (tokens_of bytes) ≡ Ok r) (first : recs n ≡ record_of (length row) bytes) where
+    takes : (row : List Spine) → 0 < length row → repaired_of (length row) (tokens_of bytes) ≡ Ok r
         → take_record row (record_of (length row) bytes) ≡ read_record row (record_of (length row) bytes)
     unfolding take_record
     takes [] l e = absurd (omega arith)

@@ -1,5 +1,5 @@
 -- "a star record reached after the header, stopped by no earlier question"
-use Rattle.std.specs.Prelude.{ℕ, suc, ◌+◌, ◌<◌, ◌≤◌, Bool, true, false, ◌||◌, List, [], ◌∷◌, ◌++◌, ◌↔◌, ◌≡◌, length}
+use Rattle.std.specs.Prelude.{Ok, ℕ, suc, ◌+◌, ◌<◌, ◌≤◌, Bool, true, false, ◌||◌, List, [], ◌∷◌, ◌++◌, ◌↔◌, ◌≡◌, length}
 use Rattle.std.proofs.Math.Option.{Option, none, some}
 use Rattle.lines.specs.Lines.{lines_of, without_crs, kind_of}
 use Rattle.lines.specs.Tokens.{tokens_of}
@@ -7,7 +7,6 @@ use Rattle.lines.specs.declared.Kind.TheVariants.{Star}
 use Rattle.utf8.specs.Utf8.{utf8_length}
 use Rattle.repair.specs.Repair.{repaired_of}
 use Rattle.repair.specs.declared.Repair.{Repair}
-use Rattle.repair.specs.declared.Repaired.TheVariants.{Even}
 use Rattle.paths.specs.Trace.{lines, FirstWithout, Unmixed, FirstMixed}
 use Rattle.reading.specs.State.{State, Step, refused, goes, ends, start}
 use Rattle.reading.specs.Records.{read_line, is_record}
@@ -41,7 +40,7 @@ pub record ReachedStar (text : List ℕ) (before : List (List ℕ)) (here : List
   pub is_star_lem : kind_of (without_crs here) ≡ Star
   pub some_spine : 0 < length state.row
   pub repair : Repair
-  pub even : repaired_of (length state.row) (tokens_of (without_crs here)) ≡ Even repair
+  pub even : repaired_of (length state.row) (tokens_of (without_crs here)) ≡ Ok repair
 
 -- how many records stand behind the header among some lines
 abbrev pub later_among : List (List ℕ) → ℕ

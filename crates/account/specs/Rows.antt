@@ -1,5 +1,5 @@
 -- WHAT THE TEXT SAYS of its rows: "Demand 3 is measured by rows of columns, from the text alone." Quoted are document 01's sentences.
-use Rattle.std.specs.Prelude.{ℕ, ◌+◌, Bool, true, false, cond, List, [], ◌∷◌, map, length, get_or}
+use Rattle.std.specs.Prelude.{Ok, Err, ℕ, ◌+◌, Bool, true, false, cond, List, [], ◌∷◌, map, length, get_or}
 use Rattle.lines.specs.Lines.{lines_of, without_crs, kind_of}
 use Rattle.lines.specs.Tokens.{tokens_of, is_kern}
 use Rattle.lines.specs.declared.Kind.{Kind}
@@ -11,9 +11,8 @@ use Rattle.paths.specs.Token.{path_token}
 use Rattle.paths.specs.Trace.{width_in}
 use Rattle.paths.specs.Voices.{Outcome, next, mixed, voiceless, wide, step_row}
 use Rattle.repair.specs.Record.{record_of}
-use Rattle.repair.specs.Repair.{repaired, repaired_of}
-use Rattle.repair.specs.declared.Repaired.{Repaired}
-use Rattle.repair.specs.declared.Repaired.TheVariants.{Uneven, Mixed, Even}
+use Rattle.repair.specs.Repair.{repaired, Repaired, repaired_of}
+use Rattle.repair.specs.declared.Unrepaired.TheVariants.{Uneven, Mixed}
 
 -- a record with the number of its line
 pub record Numbered : Type 0 where
@@ -86,9 +85,9 @@ where_next (voiceless p) rest = []
 where_next (wide n) rest = []
 
 abbrev pub where_even : Repaired → List Taken → List Taken
-where_even (Uneven n) ts = []
-where_even Mixed ts = []
-where_even (Even r) ts = ts
+where_even (Err (Uneven n)) ts = []
+where_even (Err Mixed) ts = []
+where_even (Ok r) ts = ts
 
 -- "is taken while the row isn't empty and no question stops it"
 unfoldable pub taken_from : List Spine → List Numbered → List Taken

@@ -1,4 +1,5 @@
 -- A line pays five bytes for each of its own.
+use Rattle.std.proofs.Common.{Ok, Err}
 use mathlib.Core.Path.{◌≡◌, refl}
 use Prim.Native.Nat.{ℕ, ◌+◌, ◌*◌, ◌≤◌}
 use native.Mathlib.Omega.{arith}
@@ -10,10 +11,9 @@ use Rattle.lines.specs.Lines.{kind_of}
 use Rattle.lines.specs.Tokens.{tokens_of}
 use Rattle.lines.specs.declared.Kind.{Kind}
 use Rattle.lines.specs.declared.Kind.TheVariants.{Empty, Reference, Comment, Star, Bar, Data}
-use Rattle.repair.specs.Repair.{repaired, repaired_of, repair_notice}
+use Rattle.repair.specs.Repair.{repaired, Repaired, repaired_of, repair_notice}
 use Rattle.repair.specs.declared.Repair.{Repair}
-use Rattle.repair.specs.declared.Repaired.{Repaired}
-use Rattle.repair.specs.declared.Repaired.TheVariants.{Uneven, Mixed, Even}
+use Rattle.repair.specs.declared.Unrepaired.TheVariants.{Uneven, Mixed}
 use Rattle.paths.specs.Row.{Spine}
 use Rattle.sheet.specs.Record.{span_of}
 use Rattle.reading.specs.State.{State}
@@ -48,9 +48,9 @@ kind_holds {n = n} Data k ts st p q h = widen_step n (by_kind Data k ts st) (q r
 
 repaired_holds : {b n : ℕ} (x : Repaired) (k at : ℕ) (line : List ℕ) (ts : List Token) (st : State)
     → (kind_of line ≡ Data → weight ts ≤ length line) → Holds b n st → Passes (b + 5 * length line) n (by_repair x k at line ts st)
-repaired_holds (Uneven count) k at line ts st few h = tt
-repaired_holds Mixed k at line ts st few h = tt
-repaired_holds {b} {n} (Even r) k at line ts st few h =
+repaired_holds (Err (Uneven count)) k at line ts st few h = tt
+repaired_holds (Err Mixed) k at line ts st few h = tt
+repaired_holds {b} {n} (Ok r) k at line ts st few h =
     let s = notice_repair r k at line st in
     behind_holds (b + 5 * length line) n s (by_kind (kind_of line) k ts)
     (kind_holds (kind_of line) k ts s.state (omega arith) (λ e. omega (arith, few e)) (repair_holds r k at line st h))

@@ -1,4 +1,5 @@
 -- A line keeps the state good, with one closing more at most.
+use Rattle.std.proofs.Common.{Ok, Err}
 use mathlib.Core.Path.{◌≡◌, refl, sym, subst, ◌∙◌}
 use mathlib.Core.Bool.{Bool, true, false, cond, ◌&&◌, not}
 use mathlib.Core.List.{List, [], ◌∷◌}
@@ -21,7 +22,7 @@ use Rattle.lines.proofs.KindLaws.{kind_bar}
 use Rattle.repair.specs.Repair.{each, first_of, is_bar, identical_bars, repair_of, repair_by, repaired, questions, repaired_of}
 use Rattle.repair.specs.declared.Repair.{Repair}
 use Rattle.repair.specs.declared.Repair.TheVariants.{Whole, Cut, Stars, Bars}
-use Rattle.repair.specs.declared.Repaired.TheVariants.{Uneven, Mixed, Even}
+use Rattle.repair.specs.declared.Unrepaired.TheVariants.{Uneven, Mixed}
 use Rattle.repair.proofs.EachLaws.{bar_first}
 use Rattle.repair.proofs.WidthLaws.{Applies, applies}
 use Rattle.paths.specs.Row.{Spine}
@@ -106,7 +107,7 @@ module _ {m : ℕ} (k at : ℕ) (line : List ℕ) (here : Here k at line) (w : m
       (is_star (first_of (tokens_of line)) && not (each is_star (repair_by (repair_of n (tokens_of line)) n (tokens_of line))))
     where
       go : (a b : Bool) → FineStep (m + 1)
-          (by_repair (cond a (cond b Mixed (Even (repair_of n (tokens_of line)))) (Uneven (length (tokens_of line)))) k at line
+          (by_repair (cond a (cond b (Err Mixed) (Ok (repair_of n (tokens_of line)))) (Err (Uneven (length (tokens_of line))))) k at line
           (placed at (repair_by (repair_of n (tokens_of line)) n (tokens_of line))) st)
       go true true = refuses
       go true false = fine_even n (repair_of n (tokens_of line)) st few refl g

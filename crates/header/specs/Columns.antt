@@ -1,10 +1,10 @@
 -- The header's table of active spines; a column outside kern.
-use Rattle.std.specs.Prelude.{◌≡◌, ℕ, ◌≤◌, List, map, cond, length, take}
+use Rattle.std.specs.Prelude.{Option, ◌≡◌, ℕ, ◌≤◌, List, map, cond, length, take}
 use Rattle.lines.specs.Tokens.{is_kern}
 use Rattle.paths.specs.Text.{header_row}
 use Rattle.spines.specs.Cells.{row_of}
 use Rattle.spines.specs.Table.{cells_of}
-use Rattle.spines.specs.declared.Active.{Active}
+use Rattle.spines.specs.declared.Line.{Line}
 use Rattle.sheet.specs.Record.{span_of}
 use Rattle.reading.specs.State.{State, Result}
 use Rattle.reading.specs.Notices.{quiet, notify}
@@ -15,7 +15,7 @@ unfoldable pub notice_other : ℕ → ℕ → ℕ → List ℕ → State → Res
 notice_other k j at token st = cond (is_kern token) (quiet st) (notify 2 k j (span_of at (length token)) st)
 
 -- of a header's tokens: the cells of the first n spines are the first row, and p the parts
-pub record HeaderTable (ts : List (List ℕ)) (spines : List Active) (n p : ℕ) : Type 0 where
+pub record HeaderTable (ts : List (List ℕ)) (spines : List (Option Line)) (n p : ℕ) : Type 0 where
   pub columns : n ≡ length ts
   pub few : p ≤ n
   pub row : row_of (take n (cells_of spines)) ≡ header_row (map is_kern ts)

@@ -20,7 +20,7 @@ use reading::Part;
 use reference::Key;
 use refusal::Refusal;
 use sheet::{Notice, Span};
-use spines::Active;
+use spines::Line;
 use state::Tally;
 
 // A reference record: `!!!OTL`, `!!!COM` and `!!!LYR` set title, composer and lyricist; any other key gives notice 1.
@@ -64,26 +64,20 @@ pub fn read_reference(line: &[u8], number: u32, offset: u32, tally: Tally, out: 
 fn all_exclusive(line: &[u8]) -> bool
     ensures { result ≡ each is_exclusive (tokens_of line.now) }
 {
-    let mut from = 0;
-    while from <= line.len() {
-        let end = lines::token_end(line, from);
-        if lines::is_exclusive(&line[from..end]) {
-            from = end + 1;
-        } else {
-            return false;
-        }
-    }
-    true
+    line.split(|b| *b == b'\t').all(lines::is_exclusive)
 }
 
-// A column of the header: its spine, and how many parts there are then.
-#[derive(Clone, Copy)]
-struct Column(Active, usize);
+// A column of the header: its line, or none outside kern, and how many parts there are then.
+#[derive(Clone, Copy, Debug)]
+struct Column {
+    spine: Option<Line>,
+    parts: usize,
+}
 
 // The header's table of active spines, and how many columns and parts it has.
-#[derive(Clone, Copy)]
+#[derive(Clone, Copy, Debug)]
 struct Table {
-    spines: [Active; 256],
+    spines: [Option<Line>; 256],
     columns: usize,
     parts: usize,
 }
@@ -91,22 +85,22 @@ struct Table {
 // The column of a token behind p parts.
 fn column_of(token: &[u8], p: usize) -> Column
     requires { p < 256 }
-    ensures { (spine_of (cell_of result.0) ∷ [] ≡ header_from p (is_kern token.now ∷ [])) × (result.1 ≡ p + length (fresh_parts p (is_kern token.now ∷ []))) }
+    ensures { (spine_of (cell_of result.spine) ∷ [] ≡ header_from p (is_kern token.now ∷ [])) × (result.parts ≡ p + length (fresh_parts p (is_kern token.now ∷ []))) }
 {
     if lines::is_kern(token) {
-        let spine = Active {
-            kern: true,
+        let line = Line {
             part: p as u8,
             voice: 0,
         };
-        return Column(spine, p + 1);
+        return Column {
+            spine: Some(line),
+            parts: p + 1,
+        };
     }
-    let spine = Active {
-        kern: false,
-        part: 0,
-        voice: 0,
-    };
-    Column(spine, p)
+    Column {
+        spine: None,
+        parts: p,
+    }
 }
 
 // The table of the header's tokens.
@@ -114,20 +108,15 @@ fn table_of(line: &[u8]) -> Table
     requires { length (tokens_of line.now) ≤ 256 }
     ensures { HeaderTable (tokens_of line.now) result.spines result.columns result.parts }
 {
-    let mut spines = [Active {
-        kern: false,
-        part: 0,
-        voice: 0,
-    }; 256];
+    let mut spines = [None; 256];
     let mut columns = 0;
     let mut parts = 0;
     let mut from = 0;
     while from <= line.len() {
         let end = lines::token_end(line, from);
         let column = column_of(&line[from..end], parts);
-        let spine = column.0;
-        spines[columns] = spine;
-        parts = column.1;
+        spines[columns] = column.spine;
+        parts = column.parts;
         columns += 1;
         from = end + 1;
     }
@@ -139,14 +128,12 @@ fn table_of(line: &[u8]) -> Table
 }
 
 // A row's cells, each looked up in the table.
-fn lay_row(table: [Active; 256], columns: usize, row: &mut [u16])
-    requires { (length row.old ≡ 512) × (columns ≤ 256) }
-    ensures { take columns row.new ≡ take columns (cells_of table) }
+fn lay_row(table: &[Option<Line>], columns: usize, row: &mut [u16])
+    requires { (length row.old ≡ 512) × (columns ≤ length table.now) × (length table.now ≡ 256) }
+    ensures { take columns row.new ≡ take columns (cells_of table.now) }
 {
-    let mut i = 0;
-    while i < columns {
+    for i in 0..columns {
         row[i] = spines::cell_at(table, i);
-        i += 1;
     }
 }
 
@@ -156,8 +143,7 @@ pub fn fill_row(line: &[u8], row: &mut [u16]) -> usize
     ensures { (row_of (take (length (tokens_of line.now)) row.new) ≡ header_row (map is_kern (tokens_of line.now))) × ((result ≡ length (fresh_parts 0 (map is_kern (tokens_of line.now)))) × (result ≤ 256)) }
 {
     let table = table_of(line);
-    let spines = table.spines;
-    lay_row(spines, table.columns, row);
+    lay_row(&table.spines, table.columns, row);
     table.parts
 }
 

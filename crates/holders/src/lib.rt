@@ -132,11 +132,11 @@ fn lines_of(line: &[u8], row: &[u16], part: usize, header: usize) -> Holders
     while i < row.len() {
         let cell = row[i];
         let token = spines::token_at(line, from, row.len() - i);
-        let t = token.0;
+        let t = token.kind;
         i += 1;
         held = line_step(held, part, header, i, follows, t, cell);
-        follows = paths::is_join(t);
-        from = token.1;
+        follows = t == PathToken::Join;
+        from = token.next;
     }
     held
 }
@@ -199,9 +199,9 @@ fn branches_of(line: &[u8], row: &[u16], part: usize, header: usize, lines: Hold
     while i < row.len() {
         let cell = row[i];
         let token = spines::token_at(line, from, row.len() - i);
-        let t = token.0;
+        let t = token.kind;
         i += 1;
-        from = token.1;
+        from = token.next;
         if !is_branch(cell, part, t) {
             continue;
         }

@@ -1,14 +1,13 @@
 -- One line of a text: what it begins with, its repair, and the record's kind.
-use Rattle.std.specs.Prelude.{ℕ, Bool, true, false, cond, List, [], ◌∷◌, eqb, length}
+use Rattle.std.specs.Prelude.{Ok, Err, ℕ, Bool, true, false, cond, List, [], ◌∷◌, eqb, length}
 use Rattle.std.specs.Option.{option_map_or}
 use Rattle.lines.specs.Lines.{kind_of}
 use Rattle.lines.specs.Tokens.{tokens_of}
 use Rattle.lines.specs.declared.Kind.{Kind}
 use Rattle.lines.specs.declared.Kind.TheVariants.{Empty, Reference, Comment, Star, Bar, Data}
-use Rattle.repair.specs.Repair.{repaired, repaired_of, repair_notice}
+use Rattle.repair.specs.Repair.{repaired, Repaired, repaired_of, repair_notice}
 use Rattle.repair.specs.declared.Repair.{Repair}
-use Rattle.repair.specs.declared.Repaired.{Repaired}
-use Rattle.repair.specs.declared.Repaired.TheVariants.{Uneven, Mixed, Even}
+use Rattle.repair.specs.declared.Unrepaired.TheVariants.{Uneven, Mixed}
 use Rattle.paths.specs.Row.{Spine}
 use Rattle.sheet.specs.Record.{span_of}
 use Rattle.reading.specs.State.{State, Result, Step, refused, goes, ends}
@@ -32,9 +31,9 @@ by_kind Data k ts st = read_data k ts st
 
 -- "6, figure the count before repair"; "7"
 abbrev pub by_repair : Repaired → ℕ → ℕ → List ℕ → List Token → State → Step
-by_repair (Uneven count) k at line ts st = refused 6 k count
-by_repair Mixed k at line ts st = refused 7 k 0
-by_repair (Even r) k at line ts st = behind (notice_repair r k at line st) (by_kind (kind_of line) k ts)
+by_repair (Err (Uneven count)) k at line ts st = refused 6 k count
+by_repair (Err Mixed) k at line ts st = refused 7 k 0
+by_repair (Ok r) k at line ts st = behind (notice_repair r k at line st) (by_kind (kind_of line) k ts)
 
 -- a record behind the header; "With no active spine left, any other record is put no question, gives notice 3 and ends the reading."
 abbrev pub on_row : List Spine → ℕ → ℕ → List ℕ → State → Step

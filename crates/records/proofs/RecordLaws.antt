@@ -1,4 +1,5 @@
 -- A record behind the header, and a line: what each branch of the code says is what the reading comes to.
+use Rattle.std.proofs.Common.{Ok, Err}
 use mathlib.Core.Path.{◌≡◌, refl, sym, ap, ap₂, subst, ◌∙◌}
 use Prim.Native.Nat.{ℕ, ◌≤◌}
 use native.Mathlib.Omega.{arith}
@@ -12,10 +13,10 @@ use Rattle.lines.specs.declared.Kind.{Kind}
 use Rattle.lines.specs.declared.Kind.TheVariants.{Empty, Reference, Comment, Star, Bar, Data}
 use Rattle.paths.specs.Row.{line as Line-of, spine_at}
 use Rattle.spines.specs.Cells.{row_of}
-use Rattle.repair.specs.Repair.{repaired, repaired_of}
+use Rattle.repair.specs.Repair.{repaired, Repaired, repaired_of}
 use Rattle.repair.specs.declared.Repair.{Repair}
-use Rattle.repair.specs.declared.Repaired.{Repaired}
-use Rattle.repair.specs.declared.Repaired.TheVariants.{Uneven, Mixed, Even}
+use Rattle.repair.specs.declared.Unrepaired.{Unrepaired}
+use Rattle.repair.specs.declared.Unrepaired.TheVariants.{Uneven, Mixed}
 use Rattle.sheet.specs.Record.{span_of}
 use Rattle.reading.specs.State.{State, Step, goes}
 use Rattle.reading.specs.declared.Part.{Part}
@@ -50,7 +51,7 @@ under_same {row} {t} {u} s h = record {
 pub here_same : {line row : List ℕ} {t u : Tally} {number offset : ℕ} → Same t u → Here line row t number offset → Here line row u number offset
 here_same s h = record { under = under_same s h.under; short = h.short; numbered = h.numbered }
 
-pub even_same : {t u : Tally} {r : Repair} {found : Repaired} (line : List ℕ) → Same t u → found ≡ repaired_of t.active (tokens_of line) → found ≡ Even r → Evenly u.active line
+pub even_same : {t u : Tally} {r : Repair} {found : Repaired} (line : List ℕ) → Same t u → found ≡ repaired_of t.active (tokens_of line) → found ≡ Ok r → Evenly u.active line
 even_same {t} {u} {r} line s e is = (r, ap (λ (n : ℕ). repaired_of n (tokens_of line)) s.active ∙ sym e ∙ is)
 
 module _ (parts : List Part) {row : List ℕ} {t : Tally} (h : Under row t) (line out : List ℕ) (number offset : ℕ) where
@@ -81,21 +82,21 @@ module _ (parts : List Part) {row : List ℕ} {t : Tally} (h : Under row t) (lin
         some_left cells line t.active number offset st (row_length h) (omega arith)
         ∙ ap (λ (x : Repaired). by_repair x number offset line (placed offset (repaired t.active (tokens_of line))) st) (sym is_found)
 
-    pub uneven_told : {n : ℕ} → found ≡ Uneven n
+    pub uneven_told : {n : ℕ} {e : Unrepaired} → found ≡ Err e → e ≡ Uneven n
         → stopped 6 number n ≡ landed (on_row (row_of cells) number offset line st) out t.at
-    uneven_told e =
+    uneven_told {n} {e} is kind =
         sym
         (ap (λ (x : Step). landed x out t.at)
-        (by_found ∙ ap (λ (x : Repaired). by_repair x number offset line (placed offset (repaired t.active (tokens_of line))) st) e))
+        (by_found ∙ ap (λ (x : Repaired). by_repair x number offset line (placed offset (repaired t.active (tokens_of line))) st) (is ∙ ap Err kind)))
 
-    pub mixed_told : found ≡ Mixed
+    pub mixed_told : {e : Unrepaired} → found ≡ Err e → e ≡ Mixed
         → stopped 7 number 0 ≡ landed (on_row (row_of cells) number offset line st) out t.at
-    mixed_told e =
+    mixed_told {e} is kind =
         sym
         (ap (λ (x : Step). landed x out t.at)
-        (by_found ∙ ap (λ (x : Repaired). by_repair x number offset line (placed offset (repaired t.active (tokens_of line))) st) e))
+        (by_found ∙ ap (λ (x : Repaired). by_repair x number offset line (placed offset (repaired t.active (tokens_of line))) st) (is ∙ ap Err kind)))
 
-    pub even_told : {r : Repair} {kind : Kind} (u : Tally) (out' : List ℕ) (x : Landed) → found ≡ Even r → kind ≡ kind_of line
+    pub even_told : {r : Repair} {kind : Kind} (u : Tally) (out' : List ℕ) (x : Landed) → found ≡ Ok r → kind ≡ kind_of line
         → ((cs : List ℕ) (ps : List Part) → told (Ok u) cs ps out' ≡ landed (goes (notice_repair r number offset line (state_of cs ps t))) out t.at) → Same t u
         → x ≡ landed (by_kind kind number (placed offset (repaired u.active (tokens_of line))) (state_of (take u.active row) parts u)) out' u.at
         → x ≡ landed (on_row (row_of cells) number offset line st) out t.at

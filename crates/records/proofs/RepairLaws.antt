@@ -1,4 +1,5 @@
 -- The tokens of a repaired record, by its kind.
+use Rattle.std.proofs.Common.{Ok}
 use mathlib.Core.Path.{◌≡◌, refl, sym, ap, subst, ◌∙◌}
 use Prim.Native.Nat.{ℕ, ◌-◌, ◌≤◌}
 use native.Mathlib.Omega.{arith}
@@ -18,7 +19,6 @@ use Rattle.lines.specs.declared.Kind.TheVariants.{Empty, Reference, Comment, Sta
 use Rattle.repair.specs.Repair.{each, first_of, is_ordinary, is_bar, identical_bars, repair_of, repair_by, repaired, repaired_of}
 use Rattle.repair.specs.declared.Repair.{Repair}
 use Rattle.repair.specs.declared.Repair.TheVariants.{Whole, Cut, Stars, Bars}
-use Rattle.repair.specs.declared.Repaired.TheVariants.{Even}
 use Rattle.repair.proofs.EachLaws.{bar_first, not_ordinary, not_bars}
 use Rattle.repair.proofs.WidthLaws.{Applies, applies, even_width}
 
@@ -106,7 +106,7 @@ module _ (n : ℕ) (ts : List (List ℕ)) where
   unfilled Stars e a o b w = absurd (false≢true (sym o ∙ stars_ordinary n ts e))
   unfilled Bars e a o b w = absurd (false≢true (sym b ∙ a.1))
 
-module _ (n : ℕ) (line : List ℕ) (r : Repair) (even : repaired_of n (tokens_of line) ≡ Even r) where
+module _ (n : ℕ) (line : List ℕ) (r : Repair) (even : repaired_of n (tokens_of line) ≡ Ok r) where
   pub star_tokens : kind_of line ≡ Star → repaired n (tokens_of line) ≡ filled_with (ascii "*") n (tokens_of line)
   star_tokens k =
       let s : is_star line ≡ true = subst (λ (x : Kind). Begins x (is_star line) (is_bar line)) k (begins line) in

@@ -1,9 +1,8 @@
 -- What holds where a line is read: small numbers, and as many cells as spines are active.
-use Rattle.std.specs.Prelude.{◌≡◌, ℕ, ◌+◌, ◌≤◌, ◌<◌, ◌^◌, List, length, take}
+use Rattle.std.specs.Prelude.{Ok, ◌≡◌, ℕ, ◌+◌, ◌≤◌, ◌<◌, ◌^◌, List, length, take}
 use Rattle.lines.specs.Tokens.{tokens_of}
 use Rattle.repair.specs.Repair.{repaired_of}
 use Rattle.repair.specs.declared.Repair.{Repair}
-use Rattle.repair.specs.declared.Repaired.TheVariants.{Even}
 use Rattle.state.specs.Ready.{Ready}
 use Rattle.state.specs.declared.Tally.{Tally}
 
@@ -20,4 +19,4 @@ pub record Here (line row : List ℕ) (t : Tally) (number offset : ℕ) : Type 0
 
 -- questions 6 and 7 pass
 abbrev pub Evenly : ℕ → List ℕ → Type 0
-Evenly n line = (r : Repair) × (repaired_of n (tokens_of line) ≡ Even r)
+Evenly n line = (r : Repair) × (repaired_of n (tokens_of line) ≡ Ok r)

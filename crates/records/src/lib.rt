@@ -21,7 +21,7 @@ ghost use Rattle.records.specs.Here.{Under, Here, Evenly};
 use lines::Kind;
 use reading::Part;
 use refusal::Refusal;
-use repair::{Repair, Repaired};
+use repair::{Repair, Unrepaired};
 use sheet::Span;
 use state::{Flow, Tally};
 
@@ -167,12 +167,14 @@ fn read_record(
         return Ok(Flow::Ends(noticed));
     }
     match repair::repair_record(line, active) {
-        Repaired::Uneven(columns) => Err(Refusal::Uneven {
-            line: number,
-            columns,
-        }),
-        Repaired::Mixed => Err(Refusal::Mixed { line: number }),
-        Repaired::Even(repair) => {
+        Err(stop) => match stop {
+            Unrepaired::Uneven(columns) => Err(Refusal::Uneven {
+                line: number,
+                columns,
+            }),
+            Unrepaired::Mixed => Err(Refusal::Mixed { line: number }),
+        },
+        Ok(repair) => {
             let noticed = notice_repair(repair, line, tally, number, offset, out);
             let read = read_even(
                 line, kind, row, new, masks, parts, noticed, number, offset, out,

@@ -8,9 +8,9 @@ use Rattle.slices.specs.Split.{join, split}
 use Rattle.slices.specs.Compare.{begins_with, same_bytes}
 use Rattle.lines.specs.Tokens.{tokens_of, is_star, is_empty}
 use Rattle.paths.specs.Token.{path_token}
-use Rattle.repair.specs.Repair.{each, is_ordinary, is_bar, identical_bars, repair_of, repair_by, questions, repaired_of, repaired}
-use Rattle.repair.specs.declared.Repaired.{Repaired}
-use Rattle.repair.specs.declared.Repaired.TheVariants.{Uneven, Mixed, Even}
+use Rattle.repair.specs.Repair.{each, is_ordinary, is_bar, identical_bars, repair_of, repair_by, questions, Repaired, repaired_of, repaired}
+use Rattle.std.proofs.Common.{Ok, Err}
+use Rattle.repair.specs.declared.Unrepaired.TheVariants.{Uneven, Mixed}
 use Rattle.repair.specs.declared.Repair.TheVariants.{Whole, Cut, Stars, Bars}
 
 record Example : Type 0 where
@@ -23,29 +23,29 @@ example n s r = record { active = n; line = ascii s; answer = r }
 
 examples : List Example
 examples =
-    example 2 "4c\t4e" (Even Whole)
+    example 2 "4c\t4e" (Ok Whole)
     -- the figure of 6 is the record's own count
-    ∷ example 1 "4c\t\t4d" (Uneven 3)
-    ∷ example 2 "4c" (Uneven 1)
+    ∷ example 1 "4c\t\t4d" (Err (Uneven 3))
+    ∷ example 2 "4c" (Err (Uneven 1))
     -- surplus empty tokens are cut from any record; a blank is no empty token
-    ∷ example 1 "4c\t\t" (Even Cut)
-    ∷ example 1 "=1\t" (Even Cut)
-    ∷ example 1 "*M4/4\t" (Even Cut)
-    ∷ example 1 "4c\t " (Uneven 2)
+    ∷ example 1 "4c\t\t" (Ok Cut)
+    ∷ example 1 "=1\t" (Ok Cut)
+    ∷ example 1 "*M4/4\t" (Ok Cut)
+    ∷ example 1 "4c\t " (Err (Uneven 2))
     -- 7 where the width fits, also after a cut; 6 comes first
-    ∷ example 2 "*\t" Mixed
-    ∷ example 2 "*\tx\t" Mixed
-    ∷ example 1 "*\tv" (Uneven 2)
-    ∷ example 2 "4c\t*" (Even Whole)
+    ∷ example 2 "*\t" (Err Mixed)
+    ∷ example 2 "*\tx\t" (Err Mixed)
+    ∷ example 1 "*\tv" (Err (Uneven 2))
+    ∷ example 2 "4c\t*" (Ok Whole)
     -- filled with `*`: an exclusive interpretation too, and no record with a path token
-    ∷ example 3 "**kern\t*" (Even Stars)
-    ∷ example 3 "*\t*x" (Uneven 2)
-    ∷ example 3 "*^" (Uneven 1)
-    ∷ example 3 "*\t4c" (Uneven 2)
+    ∷ example 3 "**kern\t*" (Ok Stars)
+    ∷ example 3 "*\t*x" (Err (Uneven 2))
+    ∷ example 3 "*^" (Err (Uneven 1))
+    ∷ example 3 "*\t4c" (Err (Uneven 2))
     -- filled with the barline: two at least, and all identical
-    ∷ example 3 "=1\t=1" (Even Bars)
-    ∷ example 3 "=1\t=2" (Uneven 2)
-    ∷ example 2 "=1" (Uneven 1)
+    ∷ example 3 "=1\t=1" (Ok Bars)
+    ∷ example 3 "=1\t=2" (Err (Uneven 2))
+    ∷ example 2 "=1" (Err (Uneven 1))
     ∷ []
 
 answers : map (λ (e : Example). repaired_of e.active (tokens_of e.line)) examples ≡ map (λ (e : Example). e.answer) examples

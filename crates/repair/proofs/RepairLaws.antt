@@ -1,4 +1,5 @@
 -- What a repair comes to, case by case as the code tells them apart.
+use Rattle.std.proofs.Common.{Ok, Err}
 use mathlib.Core.Path.{◌≡◌, refl, sym, ap, ◌∙◌}
 use Prim.Native.Nat.{ℕ, zero, suc, ◌-◌, ◌≤◌, ◌<◌}
 use native.Mathlib.Omega.{arith}
@@ -14,7 +15,7 @@ use Rattle.lines.specs.Tokens.{is_star, is_empty}
 use Rattle.paths.specs.Token.{path_token}
 use Rattle.repair.specs.Repair.{each, first_of, is_other, is_ordinary, is_bar, identical_bars, repair_of, repair_by, questions, repaired_of}
 use Rattle.repair.specs.declared.Repair.TheVariants.{Whole, Cut, Stars, Bars}
-use Rattle.repair.specs.declared.Repaired.TheVariants.{Uneven, Mixed, Even}
+use Rattle.repair.specs.declared.Unrepaired.TheVariants.{Uneven, Mixed}
 
 -- ---- tests of each token
 
@@ -75,19 +76,19 @@ module _ (n : ℕ) (ts : List (List ℕ)) where
     unfolding repair_of
     cut_is b = rw (lt-ltb _ _ more, b)
 
-    pub surplus : each is_empty (drop n ts) ≡ false → Uneven (length ts) ≡ repaired_of n ts
+    pub surplus : each is_empty (drop n ts) ≡ false → Err (Uneven (length ts)) ≡ repaired_of n ts
     unfolding repair_of questions repair_by
     surplus b = sym (rw (lt-ltb n (length ts) more, b, le-ltb (length ts) n (omega arith), ne_eqb (length ts) n (λ e. omega arith)))
 
     module _ (b : each is_empty (drop n ts) ≡ true) where
-      cut_by : repaired_of n ts ≡ cond (is_star (first_of ts) && not (each is_star (take n ts))) Mixed (Even Cut)
+      cut_by : repaired_of n ts ≡ cond (is_star (first_of ts) && not (each is_star (take n ts))) (Err Mixed) (Ok Cut)
       unfolding questions repair_by
       cut_by = ap (questions n ts) (cut_is b) ∙ rw (eq-eqb (length (take n ts)) n (length-take-le n ts (omega arith)))
 
-      pub cut_mixed : (is_star (first_of ts) && not (each is_star (take n ts))) ≡ true → Mixed ≡ repaired_of n ts
+      pub cut_mixed : (is_star (first_of ts) && not (each is_star (take n ts))) ≡ true → Err Mixed ≡ repaired_of n ts
       cut_mixed m = sym (cut_by ∙ rw m)
 
-      pub cut_even : (is_star (first_of ts) && not (each is_star (take n ts))) ≡ false → Even Cut ≡ repaired_of n ts
+      pub cut_even : (is_star (first_of ts) && not (each is_star (take n ts))) ≡ false → Ok Cut ≡ repaired_of n ts
       cut_even m = sym (cut_by ∙ rw m)
 
   module _ (few : length ts < n) where
@@ -98,37 +99,37 @@ module _ (n : ℕ) (ts : List (List ℕ)) where
     stars_stay : each is_ordinary ts ≡ true → each is_star (ts ++ replicate (n - length ts) (ascii "*")) ≡ true
     stars_stay o = each_append is_star ts (replicate (n - length ts) (ascii "*")) ∙ rw (each_ordinary ts o, each_replicate is_star (ascii "*") (n - length ts) star_is_star)
 
-    pub filled_stars : each is_ordinary ts ≡ true → Even Stars ≡ repaired_of n ts
+    pub filled_stars : each is_ordinary ts ≡ true → Ok Stars ≡ repaired_of n ts
     unfolding questions repair_by
     filled_stars o = sym (ap (questions n ts) (stars_is o) ∙ rw (eq-eqb _ _ (full_length (ascii "*") few), stars_stay o, never_mixed (is_star (first_of ts))))
 
     module _ (o : each is_ordinary ts ≡ false) where
-      short_is : (leb 2 (length ts) && identical_bars ts) ≡ false → Uneven (length ts) ≡ repaired_of n ts
+      short_is : (leb 2 (length ts) && identical_bars ts) ≡ false → Err (Uneven (length ts)) ≡ repaired_of n ts
       unfolding repair_of questions repair_by
       short_is b = sym (rw (le-ltb n (length ts) (omega arith), lt-ltb (length ts) n few, o, b, ne_eqb (length ts) n (λ e. omega arith)))
 
-      pub few_one : length ts < 2 → Uneven (length ts) ≡ repaired_of n ts
+      pub few_one : length ts < 2 → Err (Uneven (length ts)) ≡ repaired_of n ts
       few_one h = short_is (rw (lt-leb 2 (length ts) h))
 
       module _ (two : 2 ≤ length ts) where
-        pub few_other : identical_bars ts ≡ false → Uneven (length ts) ≡ repaired_of n ts
+        pub few_other : identical_bars ts ≡ false → Err (Uneven (length ts)) ≡ repaired_of n ts
         few_other i = short_is (rw (le-leb 2 (length ts) two, i))
 
         bars_is : identical_bars ts ≡ true → repair_of n ts ≡ Bars
         unfolding repair_of
         bars_is i = rw (le-ltb n (length ts) (omega arith), lt-ltb (length ts) n few, o, le-leb 2 (length ts) two, i)
 
-        pub filled_bars_lem : identical_bars ts ≡ true → Even Bars ≡ repaired_of n ts
+        pub filled_bars_lem : identical_bars ts ≡ true → Ok Bars ≡ repaired_of n ts
         unfolding questions repair_by
         filled_bars_lem i = sym (ap (questions n ts) (bars_is i) ∙ rw (eq-eqb _ _ (full_length (first_of ts) few), bars_no_star ts i))
 
   module _ (k : ℕ) (same : k ≡ length ts) (fits : k ≡ n) where
-    whole_by : repaired_of n ts ≡ cond (is_star (first_of ts) && not (each is_star (take k ts))) Mixed (Even Whole)
+    whole_by : repaired_of n ts ≡ cond (is_star (first_of ts) && not (each is_star (take k ts))) (Err Mixed) (Ok Whole)
     unfolding repair_of questions repair_by
     whole_by = rw (le-ltb n (length ts) (omega arith), le-ltb (length ts) n (omega arith), eq-eqb (length ts) n (omega arith), take_all k ts (omega arith))
 
-    pub whole_mixed : (is_star (first_of ts) && not (each is_star (take k ts))) ≡ true → Mixed ≡ repaired_of n ts
+    pub whole_mixed : (is_star (first_of ts) && not (each is_star (take k ts))) ≡ true → Err Mixed ≡ repaired_of n ts
     whole_mixed m = sym (whole_by ∙ rw m)
 
-    pub whole_even : (is_star (first_of ts) && not (each is_star (take k ts))) ≡ false → Even Whole ≡ repaired_of n ts
+    pub whole_even : (is_star (first_of ts) && not (each is_star (take k ts))) ≡ false → Ok Whole ≡ repaired_of n ts
     whole_even m = sym (whole_by ∙ rw m)

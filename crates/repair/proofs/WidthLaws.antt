@@ -1,4 +1,5 @@
 -- A repair always makes the widths equal; what an answer says of the width.
+use Rattle.std.proofs.Common.{Ok, Err}
 use mathlib.Core.Path.{◌≡◌, refl, sym, ap, ◌∙◌}
 use Prim.Native.Nat.{ℕ, ◌<◌}
 use native.Mathlib.Omega.{arith}
@@ -16,7 +17,7 @@ use Rattle.repair.specs.Repair.{each, first_of, is_ordinary, identical_bars, rep
 use Rattle.repair.specs.Record.{record_of}
 use Rattle.repair.specs.declared.Repair.{Repair}
 use Rattle.repair.specs.declared.Repair.TheVariants.{Whole, Cut, Stars, Bars}
-use Rattle.repair.specs.declared.Repaired.TheVariants.{Uneven, Mixed, Even}
+use Rattle.repair.specs.declared.Unrepaired.TheVariants.{Uneven, Mixed}
 use Rattle.slices.proofs.TestLaws.{clash, and_left, and_right}
 
 -- what holds where a repair applies
@@ -27,7 +28,7 @@ Applies n ts Stars = length ts < n
 Applies n ts Bars = (length ts < n) × (identical_bars ts ≡ true)
 
 -- neither 7 nor an even record is an uneven one
-passed : {k : ℕ} (r : Repair) (x : Bool) → cond x Mixed (Even r) ≡ Uneven k → ⊥
+passed : {k : ℕ} (r : Repair) (x : Bool) → cond x (Err Mixed) (Ok r) ≡ Err (Uneven k) → ⊥
 passed r true u = clash cc
 passed r false u = clash cc
 
@@ -62,30 +63,30 @@ module _ (n : ℕ) (ts : List (List ℕ)) where
   width Bars a = inr (simp (length-append, length-replicate) (omega (arith, a.0)))
 
   -- an even record has a token for each spine
-  pub even_width : {r : Repair} → repaired_of n ts ≡ Even r → length (repaired n ts) ≡ n
+  pub even_width : {r : Repair} → repaired_of n ts ≡ Ok r → length (repaired n ts) ≡ n
   unfolding questions
   even_width {r} e = go (eqb (length (repaired n ts)) n) refl e
     where
       go : (b : Bool) → eqb (length (repaired n ts)) n ≡ b →
-          cond b (cond (is_star (first_of ts) && not (each is_star (repaired n ts))) Mixed (Even (repair_of n ts))) (Uneven (length ts)) ≡ Even r → length (repaired n ts) ≡ n
+          cond b (cond (is_star (first_of ts) && not (each is_star (repaired n ts))) (Err Mixed) (Ok (repair_of n ts))) (Err (Uneven (length ts))) ≡ Ok r → length (repaired n ts) ≡ n
       go true q h = eqb-true (length (repaired n ts)) n q
       go false q h = cc
 
   -- an uneven one hasn't, and is as it was
-  even_never : {k : ℕ} (r : Repair) → length (repair_by r n ts) ≡ n → questions n ts r ≡ Uneven k → ⊥
+  even_never : {k : ℕ} (r : Repair) → length (repair_by r n ts) ≡ n → questions n ts r ≡ Err (Uneven k) → ⊥
   unfolding questions
   even_never r w h = passed r (is_star (first_of ts) && not (each is_star (repair_by r n ts))) (rw (eq-eqb (length (repair_by r n ts)) n w) at h)
 
-  whole_uneven : {k : ℕ} → questions n ts Whole ≡ Uneven k → (k ≡ length ts) × (k ≡ n → ⊥)
+  whole_uneven : {k : ℕ} → questions n ts Whole ≡ Err (Uneven k) → (k ≡ length ts) × (k ≡ n → ⊥)
   unfolding questions repair_by
   whole_uneven {k} h = go (eqb (length ts) n) refl h
     where
-      go : (b : Bool) → eqb (length ts) n ≡ b → cond b (cond (is_star (first_of ts) && not (each is_star ts)) Mixed (Even Whole)) (Uneven (length ts)) ≡ Uneven k →
+      go : (b : Bool) → eqb (length ts) n ≡ b → cond b (cond (is_star (first_of ts) && not (each is_star ts)) (Err Mixed) (Ok Whole)) (Err (Uneven (length ts))) ≡ Err (Uneven k) →
           (k ≡ length ts) × (k ≡ n → ⊥)
       go true q g = absurd (passed Whole (is_star (first_of ts) && not (each is_star ts)) g)
       go false q g = let same : k ≡ length ts = cc in (same, λ e. eqb-false (length ts) n q (sym same ∙ e))
 
-  pub uneven_width : {k : ℕ} → repaired_of n ts ≡ Uneven k → (k ≡ length (repaired n ts)) × (k ≡ n → ⊥)
+  pub uneven_width : {k : ℕ} → repaired_of n ts ≡ Err (Uneven k) → (k ≡ length (repaired n ts)) × (k ≡ n → ⊥)
   unfolding repair_by
   uneven_width {k} e = ⊎_elim (λ w. whole w (whole_uneven (sym (ap (questions n ts) w) ∙ e))) (λ w. absurd (even_never (repair_of n ts) w e)) (width (repair_of n ts) applies)
     where

@@ -1,5 +1,5 @@
 -- Repair, on a record's tokens and the number n of active spines. Quoted are document 01's sentences.
-use Rattle.std.specs.Prelude.{ℕ, ◌-◌, Bool, true, false, ◌&&◌, not, cond, eqb, leb, ltb, length, take, drop, replicate, Option, Some, None}
+use Rattle.std.specs.Prelude.{ℕ, ◌-◌, Result, Ok, Err, Bool, true, false, ◌&&◌, not, cond, eqb, leb, ltb, length, take, drop, replicate, Option, Some, None}
 use mathlib.Core.List.{List, [], ◌∷◌, ◌++◌, head_d}
 use Rattle.slices.specs.Ascii.{ascii}
 use Rattle.slices.specs.Compare.{begins_with, same_bytes}
@@ -9,8 +9,8 @@ use Rattle.paths.specs.declared.PathToken.TheVariants.{Split, Join, Exchange, En
 use Rattle.paths.specs.Token.{path_token}
 use Rattle.repair.specs.declared.Repair.{Repair}
 use Rattle.repair.specs.declared.Repair.TheVariants.{Whole, Cut, Stars, Bars}
-use Rattle.repair.specs.declared.Repaired.{Repaired}
-use Rattle.repair.specs.declared.Repaired.TheVariants.{Uneven, Mixed, Even}
+use Rattle.repair.specs.declared.Unrepaired.{Unrepaired}
+use Rattle.repair.specs.declared.Unrepaired.TheVariants.{Uneven, Mixed}
 
 -- whether each token passes a test
 unfoldable pub each : (List ℕ → Bool) → List (List ℕ) → Bool
@@ -65,13 +65,17 @@ repair_by Bars n ts = ts ++ replicate (n - length ts) (first_of ts)
 abbrev pub repaired : ℕ → List (List ℕ) → List (List ℕ)
 repaired n ts = repair_by (repair_of n ts) n ts
 
+-- what it comes to: the repair, or why the reading stops
+abbrev pub Repaired : Type 0
+Repaired = Result Repair Unrepaired
+
 -- question 6, "After repair, are there as many tokens as active spines?", with "the count before repair"; then question 7, "In a record begun by `*`,
 -- do all tokens begin `*`?"
 unfoldable pub questions : ℕ → List (List ℕ) → Repair → Repaired
 questions n ts r =
     cond (eqb (length (repair_by r n ts)) n)
-    (cond (is_star (first_of ts) && not (each is_star (repair_by r n ts))) Mixed (Even r))
-    (Uneven (length ts))
+    (cond (is_star (first_of ts) && not (each is_star (repair_by r n ts))) (Err Mixed) (Ok r))
+    (Err (Uneven (length ts)))
 
 abbrev pub repaired_of : ℕ → List (List ℕ) → Repaired
 repaired_of n ts = questions n ts (repair_of n ts)

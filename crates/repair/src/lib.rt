@@ -2,7 +2,6 @@
 
 // A record repaired to the number of active spines, and what questions 6 and 7 say of it.
 ghost use Rattle.std.specs.Prelude.{◌≡◌, ◌&&◌, not, take, drop};
-ghost use Rattle.slices.specs.Split.{pieces};
 ghost use Rattle.slices.specs.Compare.{same_bytes};
 ghost use Rattle.lines.specs.Tokens.{tokens_of, is_star, is_empty};
 ghost use Rattle.repair.specs.Repair.{each, first_of, is_ordinary, identical_bars, repaired_of};
@@ -10,7 +9,7 @@ ghost use Rattle.repair.specs.Repair.{each, first_of, is_ordinary, identical_bar
 use paths::PathToken;
 
 // What is done to a record: nothing, surplus empty tokens cut, filled with `*`, filled with its barline.
-#[derive(Clone, Copy)]
+#[derive(Clone, Copy, Debug, PartialEq, Eq)]
 pub enum Repair {
     Whole,
     Cut,
@@ -18,166 +17,82 @@ pub enum Repair {
     Bars,
 }
 
-// Stopped by question 6 with the record's own count of tokens, by question 7, or even, after a repair.
-#[derive(Clone, Copy)]
-pub enum Repaired {
+// Why a record can't be repaired: question 6 with the record's own count of tokens, or question 7.
+#[derive(Clone, Copy, Debug, PartialEq, Eq)]
+pub enum Unrepaired {
     Uneven(usize),
     Mixed,
-    Even(Repair),
 }
 
-// Where the tokens behind the first k begin.
-fn skip(line: &[u8], k: usize) -> usize
-    ensures { pieces 9 result line.now ≡ drop k (tokens_of line.now) }
+// Whether the tokens behind the first k are all empty.
+fn blank(line: &[u8], k: usize) -> bool
+    ensures { result ≡ each is_empty (drop k (tokens_of line.now)) }
 {
-    let mut from = 0;
-    let mut left = k;
-    while from <= line.len() {
-        if left == 0 {
-            return from;
-        }
-        from = lines::token_end(line, from) + 1;
-        left -= 1;
-    }
-    from
-}
-
-// Whether the tokens from an index on are all empty.
-fn blank(line: &[u8], start: usize) -> bool
-    ensures { result ≡ each is_empty (pieces 9 start line.now) }
-{
-    let mut from = start;
-    while from <= line.len() {
-        let end = lines::token_end(line, from);
-        if !lines::is_empty(&line[from..end]) {
-            return false;
-        }
-        from = end + 1;
-    }
-    true
-}
-
-// Whether the first k tokens all begin `*`.
-fn stars(line: &[u8], k: usize) -> bool
-    ensures { result ≡ each is_star (take k (tokens_of line.now)) }
-{
-    let mut from = 0;
-    let mut left = k;
-    while from <= line.len() {
-        if left == 0 {
-            return true;
-        }
-        let end = lines::token_end(line, from);
-        if !lines::is_star(&line[from..end]) {
-            return false;
-        }
-        from = end + 1;
-        left -= 1;
-    }
-    true
+    line.split(|b| *b == b'\t').skip(k).all(lines::is_empty)
 }
 
 // Whether the line begins `*` and one of its first k tokens doesn't.
 fn mixed(line: &[u8], k: usize) -> bool
     ensures { result ≡ (is_star (first_of (tokens_of line.now)) && not (each is_star (take k (tokens_of line.now)))) }
 {
-    if !lines::is_star(line) {
-        return false;
-    }
-    !stars(line, k)
+    lines::is_star(line) && !line.split(|b| *b == b'\t').take(k).all(lines::is_star)
 }
 
 // Whether a token begins `*` and is no path token.
 fn is_ordinary(token: &[u8]) -> bool
     ensures { result ≡ is_ordinary token.now }
 {
-    if !lines::is_star(token) {
-        return false;
-    }
-    match paths::path_token(token) {
-        PathToken::Other => true,
-        PathToken::Split => false,
-        PathToken::Join => false,
-        PathToken::Exchange => false,
-        PathToken::End => false,
-        PathToken::Add => false,
-    }
+    lines::is_star(token) && paths::path_token(token) == PathToken::Other
 }
 
 // Whether all tokens are.
 fn ordinary(line: &[u8]) -> bool
     ensures { result ≡ each is_ordinary (tokens_of line.now) }
 {
-    let mut from = 0;
-    while from <= line.len() {
-        let end = lines::token_end(line, from);
-        if !is_ordinary(&line[from..end]) {
-            return false;
-        }
-        from = end + 1;
-    }
-    true
+    line.split(|b| *b == b'\t').all(is_ordinary)
 }
 
 // Whether all tokens are this one.
 fn alike(line: &[u8], first: &[u8]) -> bool
     ensures { result ≡ each (same_bytes first.now) (tokens_of line.now) }
 {
-    let mut from = 0;
-    while from <= line.len() {
-        let end = lines::token_end(line, from);
-        if !slices::same(&line[from..end], first) {
-            return false;
-        }
-        from = end + 1;
-    }
-    true
+    line.split(|b| *b == b'\t').all(|t| slices::same(t, first))
 }
 
 // Whether the first token begins `=` and all are identical.
 fn identical_bars(line: &[u8]) -> bool
     ensures { result ≡ identical_bars (tokens_of line.now) }
 {
-    if line.len() == 0 {
-        return false;
-    }
-    if line[0] != b'=' {
-        return false;
-    }
     let end = lines::token_end(line, 0);
-    alike(line, &line[..end])
+    slices::begins(line, b"=") && alike(line, &line[..end])
 }
 
 // What the repair comes to. A record of the right width that doesn't begin `*` costs a count of its tabs.
-pub fn repair_record(line: &[u8], active: usize) -> Repaired
+pub fn repair_record(line: &[u8], active: usize) -> Result<Repair, Unrepaired>
     ensures { result ≡ repaired_of active (tokens_of line.now) }
 {
-    let n = lines::token_count(line);
-    if active < n {
-        let from = skip(line, active);
-        if !blank(line, from) {
-            return Repaired::Uneven(n);
+    let count = lines::token_count(line);
+    if active < count {
+        if !blank(line, active) {
+            return Err(Unrepaired::Uneven(count));
         }
         if mixed(line, active) {
-            return Repaired::Mixed;
+            return Err(Unrepaired::Mixed);
         }
-        return Repaired::Even(Repair::Cut);
+        return Ok(Repair::Cut);
     }
-    if n < active {
+    if count < active {
         if ordinary(line) {
-            return Repaired::Even(Repair::Stars);
+            return Ok(Repair::Stars);
         }
-        let single = n < 2;
-        if single {
-            return Repaired::Uneven(n);
+        let several = count >= 2;
+        if several && identical_bars(line) {
+            return Ok(Repair::Bars);
         }
-        if identical_bars(line) {
-            return Repaired::Even(Repair::Bars);
-        }
-        return Repaired::Uneven(n);
+        return Err(Unrepaired::Uneven(count));
     }
-    if mixed(line, n) {
-        return Repaired::Mixed;
+    if mixed(line, count) {
+        return Err(Unrepaired::Mixed);
     }
-    Repaired::Even(Repair::Whole)
+    Ok(Repair::Whole)
 }

@@ -5,7 +5,7 @@
 // kern, or the number of the question that stops the reading, 17 with its column.
 ghost use Rattle.std.specs.Prelude.{◌≤◌};
 
-use voices::Step;
+use voices::Stop;
 
 fn print(bytes: &[u8]) {
     io::write_all(1, bytes);
@@ -69,19 +69,19 @@ fn answer(request: &[u8]) {
     while from < request.len() {
         let end = from + slices::find(&request[from..], b'|');
         match voices::step_row(&request[from..end], &mut row, active, &mut new, &mut masks) {
-            Step::Next(count) => {
+            Ok(count) => {
                 active = count;
             }
-            Step::Mixed(column) => {
+            Err(Stop::Mixed(column)) => {
                 print(b"17 ");
                 io::print_decimal(1, column as u64);
                 return;
             }
-            Step::Voiceless(_) => {
+            Err(Stop::Voiceless(_)) => {
                 print(b"8");
                 return;
             }
-            Step::Wide(_) => {
+            Err(Stop::Wide(_)) => {
                 print(b"9");
                 return;
             }

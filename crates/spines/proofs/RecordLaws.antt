@@ -22,7 +22,8 @@ use Rattle.repair.specs.Repair.{each, first_of, is_bar, identical_bars, repair_o
 use Rattle.repair.specs.Record.{record_of}
 use Rattle.repair.specs.declared.Repair.{Repair}
 use Rattle.repair.specs.declared.Repair.TheVariants.{Whole, Cut, Stars, Bars}
-use Rattle.repair.specs.declared.Repaired.TheVariants.{Uneven, Even}
+use Rattle.std.proofs.Common.{Ok, Err}
+use Rattle.repair.specs.declared.Unrepaired.TheVariants.{Uneven}
 use Rattle.repair.proofs.WidthLaws.{Applies, applies, even_width, uneven_width, record_tokens_lem}
 use Rattle.spines.specs.Tokens.{path_tokens, record_tokens}
 
@@ -71,7 +72,7 @@ by_repair_lem n ts Stars a w = path_fill n ts (ascii "*") (omega arith) star_oth
 by_repair_lem n ts Bars a w = path_fill n ts (first_of ts) (omega (arith, a.0)) (bar_other (first_of ts) (each (same_bytes (first_of ts)) ts) a.1)
 
 module _ (n : ℕ) (line : List ℕ) where
-  module _ {r : Repair} (even : repaired_of n (tokens_of line) ≡ Even r) where
+  module _ {r : Repair} (even : repaired_of n (tokens_of line) ≡ Ok r) where
     -- the code reads the tokens of the line as it stands
     pub repaired_tokens : record_tokens n line ≡ map path_token (repaired n (tokens_of line))
     repaired_tokens = by_repair_lem n (tokens_of line) (repair_of n (tokens_of line)) (applies n (tokens_of line)) (even_width n (tokens_of line) even)
@@ -86,18 +87,18 @@ module _ (n : ℕ) (line : List ℕ) where
 
   -- the reading of such a record: "begun by `*` it makes the next row by Paths", "any other keeps the row", and question 6
   module _ (s : Spine) (row : List Spine) (size : length (s ∷ row) ≡ n) where
-    pub takes : {r : Repair} → repaired_of n (tokens_of line) ≡ Even r → take_record (s ∷ row) (record_of n line) ≡ read_record (s ∷ row) (record_of n line)
+    pub takes : {r : Repair} → repaired_of n (tokens_of line) ≡ Ok r → take_record (s ∷ row) (record_of n line) ≡ read_record (s ∷ row) (record_of n line)
     unfolding take_record
     takes even = rw (eq-eqb (tokens (record_of n line)) (suc (length row)) (record_tokens_lem n line ∙ even_width n (tokens_of line) even ∙ sym size))
 
-    pub takes_star : {r : Repair} → repaired_of n (tokens_of line) ≡ Even r → is_star line ≡ true →
+    pub takes_star : {r : Repair} → repaired_of n (tokens_of line) ≡ Ok r → is_star line ≡ true →
         take_record (s ∷ row) (record_of n line) ≡ reading (step_row (s ∷ row) (record_tokens n line))
     takes_star even h = takes even ∙ ap (read_record (s ∷ row)) (star_record even h)
 
-    pub takes_plain : {r : Repair} → repaired_of n (tokens_of line) ≡ Even r → is_star line ≡ false → take_record (s ∷ row) (record_of n line) ≡ reached (s ∷ row)
+    pub takes_plain : {r : Repair} → repaired_of n (tokens_of line) ≡ Ok r → is_star line ≡ false → take_record (s ∷ row) (record_of n line) ≡ reached (s ∷ row)
     takes_plain even h = takes even ∙ ap (read_record (s ∷ row)) (plain_record even h)
 
-    pub refuses : {k : ℕ} → repaired_of n (tokens_of line) ≡ Uneven k → take_record (s ∷ row) (record_of n line) ≡ refused 6 k
+    pub refuses : {k : ℕ} → repaired_of n (tokens_of line) ≡ Err (Uneven k) → take_record (s ∷ row) (record_of n line) ≡ refused 6 k
     unfolding take_record
     refuses {k} uneven =
         let count : tokens (record_of n line) ≡ k = record_tokens_lem n line ∙ sym (uneven_width n (tokens_of line) uneven).0 in

@@ -1,14 +1,16 @@
 -- The loop over a record's runs of `*v`: what is found from here on is what is found of the whole.
 use mathlib.Core.Path.{◌≡◌, refl, sym, ap, ap₂, ◌∙◌}
-use Prim.Native.Nat.{ℕ, suc, ◌+◌, ◌-◌, ◌/◌, ◌%◌, min, ◌≤◌, ◌<◌}
+use Prim.Native.Nat.{ℕ, suc, ◌+◌, ◌-◌, ◌/◌, ◌%◌, ◌≤◌, ◌<◌}
 use native.Mathlib.Omega.{arith}
 use native.Mathlib.Numerals.{add-one}
 use mathlib.Core.List.{List, [], ◌∷◌}
 use mathlib.Core.Bool.{Bool, true, false, ◌&&◌, ◌||◌, not, cond}
 use mathlib.Core.Option.{Option, none, some}
+use Rattle.std.proofs.Common as Std
+use Rattle.std.proofs.Common.{Some, None, is_some, unwrap_or}
+use Rattle.std.specs.Bool.{then_some}
 use lib.Dec.{eqb, ltb}
-use lib.ListN.{length, get_or, take}
-use lib.Seq.{length-take-le}
+use lib.ListN.{length, get_or}
 use borrow.Author.Tests.{eq-eqb, ne_eqb, eqb-true, eqb-false}
 use Rattle.slices.specs.Split.{pieces}
 use Rattle.slices.proofs.SplitLaws.{all_pieces}
@@ -53,8 +55,17 @@ same_origin_lem p q = go (eqb p 0) refl (eqb q 0) refl
 origins_same : (a b : ℕ) → same_origin (part_of (spine_of a)) (part_of (spine_of b)) ≡ eqb (a / 8) (b / 8)
 origins_same a b = ap₂ same_origin (cell_origin a) (cell_origin b) ∙ same_origin_lem (a / 8) (b / 8)
 
-pub stray_test : {join : Bool} (a b : ℕ) → join ≡ true → not (eqb (a / 8) (b / 8)) ≡ (join && not (same_origin (part_of (spine_of a)) (part_of (spine_of b))))
-stray_test a b e = rw (e, origins_same a b)
+abbrev pub stray : Bool → ℕ → ℕ → Bool
+stray join a b = join && not (same_origin (part_of (spine_of a)) (part_of (spine_of b)))
+
+pub stray_yes : {join : Bool} (a b : ℕ) → join ≡ true → (a / 8 ≡ b / 8 → ⊥) → stray join a b ≡ true
+stray_yes a b e n = rw (e, origins_same a b, ne_eqb (a / 8) (b / 8) n)
+
+pub stray_alike : {join : Bool} (a b : ℕ) → join ≡ true → a / 8 ≡ b / 8 → stray join a b ≡ false
+stray_alike a b e s = rw (e, origins_same a b, eq-eqb (a / 8) (b / 8) s)
+
+pub stray_none : {join : Bool} (a b : ℕ) → join ≡ false → stray join a b ≡ false
+stray_none a b e = rw e
 
 self : (o : Option ℕ) → same_origin o o ≡ true
 self none = refl
@@ -108,6 +119,17 @@ pub begin_low : {begin i b : ℕ} (joined : Bool) → begin ≤ i → b ≡ cond
 begin_low true l e = omega arith
 begin_low false l e = omega arith
 
+-- where the run begins to which column i may belong
+pub begin_is : (run : Std.Option ℕ) (i : ℕ) → unwrap_or run i ≡ cond (is_some run) (unwrap_or run 0) i
+begin_is None i = refl
+begin_is (Some b) i = refl
+
+-- the run that stands to the left of the next column
+pub runs_kept : {line row : List ℕ} {from i b : ℕ} (join : Bool) {run : Std.Option ℕ} → run ≡ then_some join b → RunsLeft line row from join b i →
+    RunsLeft line row from (is_some run) (unwrap_or run 0) i
+runs_kept true e inv = rw e inv
+runs_kept false e inv = rw e (record { high = inv.high; low = omega arith; same = inv.same })
+
 part_of_cell : (row : List ℕ) (i : ℕ) → i < length row → part_at (row_of row) i ≡ part_of (spine_of (get_or row i 0))
 unfolding part_at
 part_of_cell row i h = ap part_of (cell_at row i h)
@@ -118,8 +140,8 @@ module _ {line row : List ℕ} {from : ℕ} {joined : Bool} {begin i : ℕ} (inv
   unfolding at_hand
   tokens = let z : length row - i ≡ suc (length row - (i + 1)) = omega arith in a.same ∙ ap (λ (k : ℕ). at_hand k t (pieces 9 from' line)) z
 
-  abbrev pub stray : Bool
-  stray = join && not (same_origin (part_of (spine_of (get_or row b 0))) (part_of (spine_of (get_or row i 0))))
+  abbrev pub strays_here : Bool
+  strays_here = stray join (get_or row b 0) (get_or row i 0)
 
   abbrev rest : List PathToken
   rest = path_tokens (length row - (i + 1)) (pieces 9 from' line)
@@ -127,22 +149,22 @@ module _ {line row : List ℕ} {from : ℕ} {joined : Bool} {begin i : ℕ} (inv
   abbrev origin : ℕ → Option ℕ
   origin = part_at (row_of row)
 
-  turned : mixed_run origin (record_tokens (length row) line) ≡ cond stray (some b) (resume origin join b (i + 1) rest)
+  turned : mixed_run origin (record_tokens (length row) line) ≡ cond strays_here (some b) (resume origin join b (i + 1) rest)
   turned =
       sym inv.same ∙ ap (resume origin joined begin i) tokens ∙ turn origin joined begin i t rest
       ∙ ap₂ (λ (x : Bool) (y : ℕ). cond (x && not (same_origin (origin y) (origin i))) (some y) (resume origin x y (suc i) rest)) (sym j) (sym e)
       ∙ ap₂ (λ (p q : Option ℕ). cond (join && not (same_origin p q)) (some b) (resume origin join b (suc i) rest))
       (part_of_cell row b (omega (arith, begin_low joined inv.low e))) (part_of_cell row i h)
-      ∙ ap (λ (k : ℕ). cond stray (some b) (resume origin join b k rest)) (sym (add-one i))
+      ∙ ap (λ (k : ℕ). cond strays_here (some b) (resume origin join b k rest)) (sym (add-one i))
 
-  pub runs_turn : stray ≡ false → RunsLeft line row from' join b (i + 1)
+  pub runs_turn : strays_here ≡ false → RunsLeft line row from' join b (i + 1)
   runs_turn n = record {
     high = omega arith;
     low = omega (arith, begin_low joined inv.low e);
     same = sym (turned ∙ ap (λ (x : Bool). cond x (some b) (resume origin join b (i + 1) rest)) n);
   }
 
-  pub runs_found : stray ≡ true → (o : Outcome) → mixed (b + 1) ≡ unmixed (mixed_run origin (record_tokens (length row) line)) o
+  pub runs_found : strays_here ≡ true → (o : Outcome) → mixed (b + 1) ≡ unmixed (mixed_run origin (record_tokens (length row) line)) o
   runs_found y o = sym (ap (λ (m : Option ℕ). unmixed m o) (turned ∙ ap (λ (x : Bool). cond x (some b) (resume origin join b (i + 1) rest)) y))
 
 pub runs_past : {line row : List ℕ} {from : ℕ} {joined : Bool} {begin i : ℕ} → RunsLeft line row from joined begin i → length row ≤ i
@@ -156,12 +178,3 @@ runs_past {line} {row} {from} {joined} {begin} {i} inv h o = sym (ap (λ (m : Op
     go : (b : Bool) → resume (part_at (row_of row)) b begin i [] ≡ none
     go true = refl
     go false = refl
-
--- of a whole array the first `active` cells, at most 256, are read
-pub clipped_runs : (text row : List ℕ) (active n : ℕ) → length row ≡ 512 → n ≡ min active 256 → (f : Outcome → Outcome)
-    → ((o : Outcome) → f o ≡ unmixed (mixed_run (part_at (row_of (take n row))) (record_tokens (length (take n row)) text)) o)
-    → (o : Outcome) → f o ≡ unmixed (mixed_run (part_at (row_of (take (min active 256) row))) (record_tokens (min active 256) text)) o
-clipped_runs text row active n size e f w o =
-    let low : n ≤ 256 = omega arith in
-    let l : length (take n row) ≡ n = length-take-le n row (omega arith) in
-    rw e at (rw l at (w o))

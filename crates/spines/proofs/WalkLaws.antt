@@ -1,12 +1,11 @@
 -- The loop over a record's tokens: what it reads ahead, and a turn of it.
-use mathlib.Core.Path.{◌≡◌, refl, sym, ap, ap₂, ◌∙◌}
-use Prim.Native.Nat.{ℕ, zero, suc, ◌+◌, ◌-◌, ◌*◌, ◌/◌, min, ◌≤◌, ◌<◌}
+use mathlib.Core.Path.{◌≡◌, refl, sym, ap, ap₂, ◌∙◌, subst}
+use Prim.Native.Nat.{ℕ, zero, suc, ◌+◌, ◌-◌, ◌*◌, ◌/◌, ◌≤◌, ◌<◌}
 use native.Mathlib.Omega.{arith}
 use native.Mathlib.Numerals.{add-one}
 use mathlib.Core.List.{List, [], ◌∷◌, ◌++◌, head_d, append_assoc, append-nil}
 use mathlib.Core.Bool.{Bool, true, false}
 use lib.ListN.{length, get_or, take, drop, set, length-set}
-use lib.Seq.{length-take-le}
 use Rattle.slices.specs.Split.{pieces}
 use Rattle.slices.proofs.SplitLaws.{all_pieces, no_piece}
 use Rattle.lines.proofs.PieceLaws.{Piece}
@@ -18,7 +17,8 @@ use Rattle.paths.specs.Walk.{Mode, alone, act, after, emit, starts_exchange, wal
 use Rattle.paths.proofs.WalkLaws.{next_walk}
 use Rattle.spines.specs.Cells.{spine_of, row_of}
 use Rattle.spines.specs.Tokens.{path_tokens, record_tokens, at_hand, Ahead}
-use Rattle.spines.specs.Emit.{mode_of, behind_join, Emitted}
+use Rattle.spines.specs.Emit.{mode_of, Emitted}
+use Rattle.spines.specs.declared.Emission.{Emission}
 use Rattle.spines.specs.declared.Left.{Left}
 use Rattle.spines.specs.declared.Left.TheVariants.{Nothing, Joined, Exchanged}
 use Rattle.spines.proofs.CellLaws.{cell_fork, row_append, row_drop, row_head}
@@ -52,44 +52,56 @@ ahead_here {line} {from} {n} {e} {t} some piece is = record { same = rw (piece.h
 
 -- ---- what a token gives
 
-module _ {b c d : ℕ} {pair : Bool} {t : PathToken} where
-  pub em_split : (j : Bool) → t ≡ Split → Emitted (behind_join j) t pair b c d 2 c (c / 8 * 8 + 4) Nothing
-  unfolding row_of
-  em_split true e = rw e (record { few = omega arith; gives = ap (λ (s : Spine). spine_of c ∷ s ∷ []) (cell_fork c); state = refl })
-  em_split false e = rw e (record { few = omega arith; gives = ap (λ (s : Spine). spine_of c ∷ s ∷ []) (cell_fork c); state = refl })
+pub emitted_by : {m : Mode} {t : PathToken} {pair : Bool} {b c d : ℕ} {e f : Emission} → e ≡ f → Emitted m t pair b c d f.count f.first f.second f.left →
+    Emitted m t pair b c d e.count e.first e.second e.left
+emitted_by {m} {t} {pair} {b} {c} {d} e is = subst (λ (x : Emission). Emitted m t pair b c d x.count x.first x.second x.left) (sym e) is
 
-  pub em_more : {j : Bool} → j ≡ true → t ≡ Join → Emitted (behind_join j) t pair b c d 0 0 0 Joined
+module _ {b c d : ℕ} {pair : Bool} {t : PathToken} where
+  pub em_split : (left : Left) → (left ≡ Exchanged → ⊥) → t ≡ Split → Emitted (mode_of left) t pair b c d 2 c (c / 8 * 8 + 4) Nothing
+  unfolding row_of
+  em_split Nothing n e = rw e (record { few = omega arith; gives = ap (λ (s : Spine). spine_of c ∷ s ∷ []) (cell_fork c); state = refl })
+  em_split Joined n e = rw e (record { few = omega arith; gives = ap (λ (s : Spine). spine_of c ∷ s ∷ []) (cell_fork c); state = refl })
+  em_split Exchanged n e = absurd (n refl)
+
+  pub em_more : {left : Left} → left ≡ Joined → t ≡ Join → Emitted (mode_of left) t pair b c d 0 0 0 Joined
   unfolding row_of
   em_more h e = rw (h, e) (record { few = omega arith; gives = refl; state = refl })
 
-  pub em_join : {j : Bool} → j ≡ false → t ≡ Join → Emitted (behind_join j) t pair b c d 1 c 0 Joined
+  pub em_join : (left : Left) → (left ≡ Exchanged → ⊥) → (left ≡ Joined → ⊥) → t ≡ Join → Emitted (mode_of left) t pair b c d 1 c 0 Joined
   unfolding row_of
-  em_join h e = rw (h, e) (record { few = omega arith; gives = refl; state = refl })
+  em_join Nothing n m e = rw e (record { few = omega arith; gives = refl; state = refl })
+  em_join Joined n m e = absurd (m refl)
+  em_join Exchanged n m e = absurd (n refl)
 
-  pub em_pair : (j : Bool) → pair ≡ true → t ≡ Exchange → Emitted (behind_join j) t pair b c d 1 d 0 Exchanged
+  pub em_pair : (left : Left) → (left ≡ Exchanged → ⊥) → pair ≡ true → t ≡ Exchange → Emitted (mode_of left) t pair b c d 1 d 0 Exchanged
   unfolding row_of
-  em_pair true h e = rw (h, e) (record { few = omega arith; gives = refl; state = refl })
-  em_pair false h e = rw (h, e) (record { few = omega arith; gives = refl; state = refl })
+  em_pair Nothing n h e = rw (h, e) (record { few = omega arith; gives = refl; state = refl })
+  em_pair Joined n h e = rw (h, e) (record { few = omega arith; gives = refl; state = refl })
+  em_pair Exchanged n h e = absurd (n refl)
 
-  pub em_lone : (j : Bool) → pair ≡ false → t ≡ Exchange → Emitted (behind_join j) t pair b c d 1 c 0 Nothing
+  pub em_lone : (left : Left) → (left ≡ Exchanged → ⊥) → pair ≡ false → t ≡ Exchange → Emitted (mode_of left) t pair b c d 1 c 0 Nothing
   unfolding row_of
-  em_lone true h e = rw (h, e) (record { few = omega arith; gives = refl; state = refl })
-  em_lone false h e = rw (h, e) (record { few = omega arith; gives = refl; state = refl })
+  em_lone Nothing n h e = rw (h, e) (record { few = omega arith; gives = refl; state = refl })
+  em_lone Joined n h e = rw (h, e) (record { few = omega arith; gives = refl; state = refl })
+  em_lone Exchanged n h e = absurd (n refl)
 
-  pub em_end : (j : Bool) → t ≡ End → Emitted (behind_join j) t pair b c d 0 0 0 Nothing
+  pub em_end : (left : Left) → (left ≡ Exchanged → ⊥) → t ≡ End → Emitted (mode_of left) t pair b c d 0 0 0 Nothing
   unfolding row_of
-  em_end true e = rw e (record { few = omega arith; gives = refl; state = refl })
-  em_end false e = rw e (record { few = omega arith; gives = refl; state = refl })
+  em_end Nothing n e = rw e (record { few = omega arith; gives = refl; state = refl })
+  em_end Joined n e = rw e (record { few = omega arith; gives = refl; state = refl })
+  em_end Exchanged n e = absurd (n refl)
 
-  pub em_add : (j : Bool) → t ≡ Add → Emitted (behind_join j) t pair b c d 2 c 0 Nothing
+  pub em_add : (left : Left) → (left ≡ Exchanged → ⊥) → t ≡ Add → Emitted (mode_of left) t pair b c d 2 c 0 Nothing
   unfolding row_of spine_of
-  em_add true e = rw e (record { few = omega arith; gives = refl; state = refl })
-  em_add false e = rw e (record { few = omega arith; gives = refl; state = refl })
+  em_add Nothing n e = rw e (record { few = omega arith; gives = refl; state = refl })
+  em_add Joined n e = rw e (record { few = omega arith; gives = refl; state = refl })
+  em_add Exchanged n e = absurd (n refl)
 
-  pub em_other : (j : Bool) → t ≡ Other → Emitted (behind_join j) t pair b c d 1 c 0 Nothing
+  pub em_other : (left : Left) → (left ≡ Exchanged → ⊥) → t ≡ Other → Emitted (mode_of left) t pair b c d 1 c 0 Nothing
   unfolding row_of
-  em_other true e = rw e (record { few = omega arith; gives = refl; state = refl })
-  em_other false e = rw e (record { few = omega arith; gives = refl; state = refl })
+  em_other Nothing n e = rw e (record { few = omega arith; gives = refl; state = refl })
+  em_other Joined n e = rw e (record { few = omega arith; gives = refl; state = refl })
+  em_other Exchanged n e = absurd (n refl)
 
   pub em_right : {left : Left} → left ≡ Exchanged → Emitted (mode_of left) t pair b c d 1 b 0 Nothing
   unfolding row_of
@@ -197,12 +209,3 @@ module _ {line row next : List ℕ} {size : ℕ} {t : PathToken} {from : ℕ} {l
             ∙ ap (λ (k : ℕ). row_of (take n next) ++ walk (mode_of left) (spine_of b) (at_hand k t (pieces 9 from line)) (row_of (drop i row))) (sym z) ∙ inv.same,
         omega (arith, inv.small, inv.high),
       )
-
--- of a whole array the first `active` cells, at most 256, are read
-pub clipped : (line row out : List ℕ) (active n r : ℕ) → length row ≡ 512 → n ≡ min active 256 →
-    (row_of (take r out) ≡ next_row (record_tokens (length (take n row)) line) (row_of (take n row))) × (r ≤ 2 * length (take n row)) →
-    (row_of (take r out) ≡ next_row (record_tokens (min active 256) line) (row_of (take (min active 256) row))) × (r ≤ 512)
-clipped line row out active n r size e w =
-    let low : n ≤ 256 = omega arith in
-    let l : length (take n row) ≡ n = length-take-le n row (omega arith) in
-    (rw e at (rw l at w.0), omega arith)

@@ -1,5 +1,5 @@
 -- What a token gives, as cells, and what then stands to the left: a turn of `walk`.
-use Rattle.std.specs.Prelude.{◌≡◌, ℕ, ◌≤◌, [], ◌∷◌, Bool, true, false, take}
+use Rattle.std.specs.Prelude.{◌≡◌, ℕ, ◌≤◌, [], ◌∷◌, Bool, take}
 use Rattle.paths.specs.declared.PathToken.{PathToken}
 use Rattle.paths.specs.Walk.{Mode, alone, joining, exchanging, act, after, emit}
 use Rattle.spines.specs.Cells.{spine_of, row_of}
@@ -10,10 +10,6 @@ abbrev pub mode_of : Left → Mode
 mode_of Nothing = alone
 mode_of Joined = joining
 mode_of Exchanged = exchanging
-
-abbrev pub behind_join : Bool → Mode
-behind_join true = joining
-behind_join false = alone
 
 -- by what stands to the left, the token, and whether an `*x` stands to the right: n of the cells x, y, of b, the cell to the left, c, its own, and
 -- d, the cell to the right

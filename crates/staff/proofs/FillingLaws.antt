@@ -22,10 +22,10 @@ use Rattle.paths.specs.Text.{reached, reading}
 use Rattle.paths.specs.Token.{path_token}
 use Rattle.paths.specs.Trace.{FirstWithout}
 use Rattle.paths.specs.Voices.{Outcome, next, mixed, voiceless, wide, step_row}
-use Rattle.repair.specs.Repair.{each, repaired, repaired_of}
+use Rattle.repair.specs.Repair.{each, repaired, Repaired, repaired_of}
 use Rattle.repair.specs.declared.Repair.{Repair}
-use Rattle.repair.specs.declared.Repaired.{Repaired}
-use Rattle.repair.specs.declared.Repaired.TheVariants.{Uneven, Mixed, Even}
+use Rattle.std.proofs.Common.{Ok, Err}
+use Rattle.repair.specs.declared.Unrepaired.TheVariants.{Uneven, Mixed}
 use Rattle.repair.proofs.WidthLaws.{even_width}
 use Rattle.spines.specs.Tokens.{record_tokens}
 use Rattle.spines.proofs.RecordLaws.{repaired_tokens, star_record}
@@ -61,16 +61,16 @@ use Rattle.staff.specs.Filling.{filling_by, filling_of}
 
 -- a record behind the header is even
 onrow_even : (row : List Spine) (k offset : ℕ) (bytes : List ℕ) (st : State) (r : Result) → on_row row k offset bytes st ≡ goes r
-    → (0 < length row) × ((p : Repair) × (repaired_of (length row) (tokens_of bytes) ≡ Even p))
+    → (0 < length row) × ((p : Repair) × (repaired_of (length row) (tokens_of bytes) ≡ Ok p))
 onrow_even [] k offset bytes st r e = clash cc
 onrow_even (s ∷ row) k offset bytes st r e = go (repaired_of (length (s ∷ row)) (tokens_of bytes)) refl e
   where
     go : (o : Repaired) → repaired_of (length (s ∷ row)) (tokens_of bytes) ≡ o
         → by_repair o k offset bytes (placed offset (repaired (length (s ∷ row)) (tokens_of bytes))) st ≡ goes r
-        → (0 < length (s ∷ row)) × ((p : Repair) × (repaired_of (length (s ∷ row)) (tokens_of bytes) ≡ Even p))
-    go (Uneven n) i e = clash cc
-    go Mixed i e = clash cc
-    go (Even p) i e = (omega arith, (p, i))
+        → (0 < length (s ∷ row)) × ((p : Repair) × (repaired_of (length (s ∷ row)) (tokens_of bytes) ≡ Ok p))
+    go (Err (Uneven n)) i e = clash cc
+    go (Err Mixed) i e = clash cc
+    go (Ok p) i e = (omega arith, (p, i))
 
 -- the header has at most 256 tokens
 header_few : (k offset : ℕ) (bytes : List ℕ) (st : State) (r : Result) → read_header k offset bytes st ≡ goes r → ltb 256 (length (tokens_of bytes)) ≡ false
@@ -89,7 +89,7 @@ reading_row (mixed c) row e = clash cc
 reading_row (voiceless p) row e = clash cc
 reading_row (wide n) row e = clash cc
 
-module _ (row row' : List Spine) (bytes : List ℕ) {p : Repair} (even : repaired_of (length row) (tokens_of bytes) ≡ Even p) where
+module _ (row row' : List Spine) (bytes : List ℕ) {p : Repair} (even : repaired_of (length row) (tokens_of bytes) ≡ Ok p) where
   moved : (kind : Kind) → reading (row_after kind (repaired (length row) (tokens_of bytes)) row) ≡ reached row' → moved_by kind bytes row ≡ row'
   moved Empty e = reading_row (next row) row' e
   moved Reference e = reading_row (next row) row' e

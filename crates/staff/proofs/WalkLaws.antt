@@ -22,8 +22,10 @@ use Rattle.spines.specs.Cells.{row_of}
 use Rattle.spines.specs.Tokens.{record_tokens}
 use Rattle.spines.proofs.CellLaws.{row_length}
 use Rattle.voices.specs.Outcome.{outcome_of, active_after}
-use Rattle.voices.specs.declared.Step.{Step}
-use Rattle.voices.specs.declared.Step.TheVariants.{Next, Mixed, Voiceless, Wide}
+use Rattle.std.proofs.Common.{Result, Ok, Err}
+use Rattle.std.specs.Result.{result_unwrap_or}
+use Rattle.voices.specs.declared.Stop.{Stop}
+use Rattle.voices.specs.declared.Stop.TheVariants.{Mixed, Voiceless, Wide}
 use Rattle.holders.specs.Walk.{walked, kern_column}
 use Rattle.holders.specs.declared.Holder.{Holder}
 use Rattle.reading.specs.Records.{is_record as isRecordRead}
@@ -32,17 +34,21 @@ use Rattle.account.proofs.LineLaws.{records_some, records_none, same_record}
 use Rattle.staff.specs.Row.{row_by, moved_by, headed_by, row_past, row_through, walked_at, Within, Reached}
 
 -- ---- one record
-outcome_row : (s : Step) (cells : List ℕ) → row_of (take (active_after s) cells) ≡ row_by (outcome_of s cells)
+pub active_is : (s : Result ℕ Stop) → result_unwrap_or s 0 ≡ active_after s
+active_is (Ok n) = refl
+active_is (Err e) = refl
+
+outcome_row : (s : Result ℕ Stop) (cells : List ℕ) → row_of (take (active_after s) cells) ≡ row_by (outcome_of s cells)
 unfolding row_of
-outcome_row (Next n) cells = refl
-outcome_row (Mixed c) cells = refl
-outcome_row (Voiceless p) cells = refl
-outcome_row (Wide n) cells = refl
+outcome_row (Ok n) cells = refl
+outcome_row (Err (Mixed c)) cells = refl
+outcome_row (Err (Voiceless p)) cells = refl
+outcome_row (Err (Wide n)) cells = refl
 
 module _ (line cells cells' : List ℕ) {active r : ℕ} {kind : Kind} (room : length cells ≡ 512) (few : active ≤ 256) where
-  pub star_behind : (s : Step) → kind ≡ Star → (outcome_of s cells' ≡ step_row (row_of (take (min active 256) cells)) (record_tokens (min active 256) line)) × (active_after s ≤ 256)
+  pub star_behind : (s : Result ℕ Stop) → kind ≡ Star → outcome_of s cells' ≡ step_row (row_of (take (min active 256) cells)) (record_tokens (min active 256) line) → active_after s ≤ 256
       → r ≡ active_after s → (row_of (take r cells') ≡ moved_by kind line (row_of (take active cells))) × (r ≤ 256)
-  star_behind s star (e, l) is =
+  star_behind s star e l is =
       let z : min active 256 ≡ active = omega arith in
       let w : length (row_of (take active cells)) ≡ active = row_length (take active cells) ∙ length-take-le active cells (omega arith) in
       (rw (star, w, is) (outcome_row s cells' ∙ ap row_by (rw z at e)), omega arith)

@@ -4,7 +4,6 @@
 ghost use Rattle.std.specs.Prelude.{◌≡◌, ℕ, ◌≤◌, ◌<◌, ◌^◌, [], length, take};
 ghost use Rattle.lines.specs.Lines.{kind_of};
 ghost use Rattle.spines.specs.Cells.{row_of};
-ghost use Rattle.voices.specs.Outcome.{active_after};
 ghost use Rattle.holders.specs.Holders.{Five};
 ghost use Rattle.holders.specs.Walk.{listed, Kept, walked, kern_column};
 ghost use Rattle.spines.specs.Tokens.{record_tokens};
@@ -21,25 +20,12 @@ ghost use Rattle.staff.specs.Filling.{filling_of};
 use holders::Holders;
 use lines::Kind;
 use refusal::Refusal;
-use voices::Step;
 
 // The reader's answer, and the lines that fill the staff: five of a text that is refused with 8, none of any other.
 #[derive(Clone, Copy)]
 pub struct Explained {
     pub answer: Result<usize, Refusal>,
     pub lines: Holders,
-}
-
-// How many spines the next row has, none where a question stops the record.
-fn active_after(step: Step) -> usize
-    ensures { result ≡ active_after step }
-{
-    match step {
-        Step::Next(n) => n,
-        Step::Mixed(_) => 0,
-        Step::Voiceless(_) => 0,
-        Step::Wide(_) => 0,
-    }
 }
 
 // The row behind a record that isn't the header: a star record's next row, or the old one.
@@ -58,7 +44,7 @@ fn row_behind(
         Kind::Empty => active,
         Kind::Reference => active,
         Kind::Comment => active,
-        Kind::Star => active_after(voices::step_row(line, row, active, new, masks)),
+        Kind::Star => voices::step_row(line, row, active, new, masks).unwrap_or(0),
         Kind::Bar => active,
         Kind::Data => active,
     }

@@ -11,8 +11,8 @@ use Rattle.paths.specs.Row.{Spine}
 use Rattle.paths.specs.Voices.{Outcome, step_row}
 use Rattle.spines.specs.Cells.{row_of}
 use Rattle.spines.specs.Tokens.{record_tokens}
-use Rattle.voices.specs.declared.Step.{Step as StepRow}
-use Rattle.voices.specs.declared.Step.TheVariants.{Next, Mixed, Voiceless, Wide}
+use Rattle.voices.specs.declared.Stop.{Stop}
+use Rattle.voices.specs.declared.Stop.TheVariants.{Mixed, Voiceless, Wide}
 use Rattle.voices.specs.Outcome.{outcome_of}
 use Rattle.reading.specs.State.{Result, goes, with_row}
 use Rattle.reading.specs.declared.Part.{Part}
@@ -20,15 +20,15 @@ use Rattle.reading.specs.Notices.{Token, placed}
 use Rattle.reading.specs.Star.{read_columns, to_row, read_star}
 use Rattle.state.specs.declared.Tally.{Tally}
 use Rattle.refusal.specs.declared.Refusal.{Refusal}
-use Rattle.std.specs.Prelude.{Ok, Result as Answered}
+use Rattle.std.specs.Prelude.{Ok, Err, Result as Answered}
 use Rattle.state.specs.Ready.{Few}
 use Rattle.state.specs.View.{Landed, stopped, going, ending, state_of, landed, told, told_row}
 use Rattle.stars.specs.Columns.{filled, columns_of}
 use Rattle.stars.specs.Next.{stepped}
 use Rattle.stars.proofs.LoopLaws.{path_filled}
 
-pub answer_as : {s x : StepRow} (t : Tally) (k : ℕ) {r : Answered Tally Refusal} → s ≡ x → r ≡ stepped x t k → r ≡ stepped s t k
-answer_as t k e h = h ∙ ap (λ (y : StepRow). stepped y t k) (sym e)
+pub answer_as : {s x : Answered ℕ Stop} (t : Tally) (k : ℕ) {r : Answered Tally Refusal} → s ≡ x → r ≡ stepped x t k → r ≡ stepped s t k
+answer_as t k e h = h ∙ ap (λ (y : Answered ℕ Stop). stepped y t k) (sym e)
 
 placed_paths : (at : ℕ) (ts : List (List ℕ)) → map (λ (t : Token). path_token t.bytes) (placed at ts) ≡ map path_token ts
 unfolding placed
@@ -41,18 +41,18 @@ rowed row (stopped n l f) = stopped n l f
 rowed row (going st at out) = going (with_row st row) at out
 rowed row (ending st at out) = ending (with_row st row) at out
 
-by_step : (step : StepRow) (cells row' : List ℕ) (parts' : List Part) (out out' : List ℕ) (t : Tally) (r : Result) (number at : ℕ) → told (Ok t) cells parts' out' ≡ landed (goes r) out at
+by_step : (step : Answered ℕ Stop) (cells row' : List ℕ) (parts' : List Part) (out out' : List ℕ) (t : Tally) (r : Result) (number at : ℕ) → told (Ok t) cells parts' out' ≡ landed (goes r) out at
     → told_row (stepped step t number) row' parts' out' ≡ landed (to_row number r (outcome_of step row')) out at
-by_step (Next n) cells row' parts' out out' t r number at h = ap (rowed (row_of (take n row'))) h
-by_step (Mixed c) cells row' parts' out out' t r number at h = refl
-by_step (Voiceless p) cells row' parts' out out' t r number at h = refl
-by_step (Wide n) cells row' parts' out out' t r number at h = refl
+by_step (Ok n) cells row' parts' out out' t r number at h = ap (rowed (row_of (take n row'))) h
+by_step (Err (Mixed c)) cells row' parts' out out' t r number at h = refl
+by_step (Err (Voiceless p)) cells row' parts' out out' t r number at h = refl
+by_step (Err (Wide n)) cells row' parts' out out' t r number at h = refl
 
 module _ (text row row' : List ℕ) (parts parts' : List Part) (out out' : List ℕ) (tally t : Tally) (number offset : ℕ) where
   abbrev cells : List ℕ
   cells = take tally.active row
 
-  pub star_told : (step : StepRow) {r : Answered Tally Refusal}
+  pub star_told : (step : Answered ℕ Stop) {r : Answered Tally Refusal}
       → told (Ok t) cells parts' out' ≡ landed (goes (columns_of text cells number offset (state_of cells parts tally))) out tally.at → length cells ≡ tally.active
       → tally.active ≤ 256
       → outcome_of step row' ≡ step_row (row_of (take (min tally.active 256) row)) (record_tokens (min tally.active 256) text)
@@ -74,10 +74,10 @@ module _ (text row row' : List ℕ) (parts parts' : List Part) (out out' : List 
       (step_row (row_of cells) ps)) out tally.at)
       (sym (placed_paths offset (filled (length cells) (tokens_of text))))
 
-pub star_few : (step : StepRow) (t : Tally) (k : ℕ) {r : Answered Tally Refusal} → t.parts ≤ 256 → r ≡ stepped step t k → Few r
+pub star_few : (step : Answered ℕ Stop) (t : Tally) (k : ℕ) {r : Answered Tally Refusal} → t.parts ≤ 256 → r ≡ stepped step t k → Few r
 star_few step t k h e = subst Few (sym e) (go step)
   where
-    go : (s : StepRow) → Few (stepped s t k)
+    go : (s : Answered ℕ Stop) → Few (stepped s t k)
     go (Next n) = h
     go (Mixed c) = tt
     go (Voiceless p) = tt

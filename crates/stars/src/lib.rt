@@ -27,6 +27,7 @@ use reading::Part;
 use refusal::Refusal;
 use sheet::Span;
 use state::Tally;
+use voices::Stop;
 
 // The counts with a tempo, if it is the first.
 fn with_first(tally: Tally, bpm: u16) -> Tally
@@ -151,7 +152,7 @@ fn exchange_at(line: &[u8], from: usize, n: usize) -> bool
         return false;
     }
     let end = lines::token_end(line, from);
-    paths::is_exchange(paths::path_token(&line[from..end]))
+    paths::path_token(&line[from..end]) == PathToken::Exchange
 }
 
 // Whether the token from `from` to `end` exchanges with the one to its right: `left` says whether it does with the one to its left.
@@ -162,7 +163,7 @@ fn exchanges_right(line: &[u8], from: usize, end: usize, n: usize, left: bool) -
     if left {
         return false;
     }
-    if paths::is_exchange(paths::path_token(&line[from..end])) {
+    if paths::path_token(&line[from..end]) == PathToken::Exchange {
         return exchange_at(line, end + 1, n - 1);
     }
     false
@@ -233,20 +234,20 @@ fn columns_of(
 }
 
 // The answer: questions 17, 8 and 9, or the next row's width.
-fn answer(step: voices::Step, tally: Tally, number: u32) -> Result<Tally, Refusal>
+fn answer(step: Result<usize, Stop>, tally: Tally, number: u32) -> Result<Tally, Refusal>
     ensures { result ≡ stepped step tally number }
 {
     match step {
-        voices::Step::Next(n) => Ok(state::with_active(tally, n)),
-        voices::Step::Mixed(column) => Err(Refusal::MixedJoin {
+        Ok(n) => Ok(state::with_active(tally, n)),
+        Err(Stop::Mixed(column)) => Err(Refusal::MixedJoin {
             line: number,
             column,
         }),
-        voices::Step::Voiceless(p) => Err(Refusal::StaffFull {
+        Err(Stop::Voiceless(p)) => Err(Refusal::StaffFull {
             line: number,
             part: p as usize,
         }),
-        voices::Step::Wide(n) => Err(Refusal::ManySpines {
+        Err(Stop::Wide(n)) => Err(Refusal::ManySpines {
             line: number,
             spines: n,
         }),

@@ -1,4 +1,5 @@
 -- Line after line: the row is short, its parts are among the state's, and the counts are small.
+use Rattle.std.proofs.Common.{Ok, Err}
 use mathlib.Core.Path.{◌≡◌, refl, sym, subst}
 use Prim.Native.Nat.{ℕ}
 use native.Mathlib.Omega.{arith}
@@ -13,10 +14,9 @@ use Rattle.lines.specs.declared.Kind.{Kind}
 use Rattle.lines.specs.declared.Kind.TheVariants.{Empty, Reference, Comment, Star, Bar, Data}
 use Rattle.std.proofs.Common.{Option, Some, None}
 use Rattle.std.specs.Option.{option_map_or}
-use Rattle.repair.specs.Repair.{each, repaired, repaired_of, repair_notice}
+use Rattle.repair.specs.Repair.{each, repaired, Repaired, repaired_of, repair_notice}
 use Rattle.repair.specs.declared.Repair.{Repair}
-use Rattle.repair.specs.declared.Repaired.{Repaired}
-use Rattle.repair.specs.declared.Repaired.TheVariants.{Uneven, Mixed, Even}
+use Rattle.repair.specs.declared.Unrepaired.TheVariants.{Uneven, Mixed}
 use Rattle.paths.specs.Row.{Spine}
 use Rattle.paths.specs.Text.{header_row}
 use Rattle.paths.specs.Token.{path_token}
@@ -120,9 +120,9 @@ repair_firm r k at s st h = go (repair_notice r)
     go (Some n) = notify_firm n k 0 at (length s) st h
 
 repaired_firm : (x : Repaired) (k at : ℕ) (s : List ℕ) (ts : List Token) (st : State) → Firmly st → StepFirm (by_repair x k at s ts st)
-repaired_firm (Uneven count) k at s ts st h = tt
-repaired_firm Mixed k at s ts st h = tt
-repaired_firm (Even r) k at s ts st h =
+repaired_firm (Err (Uneven count)) k at s ts st h = tt
+repaired_firm (Err Mixed) k at s ts st h = tt
+repaired_firm (Ok r) k at s ts st h =
     let x = notice_repair r k at s st in
     behind_firm x (by_kind (kind_of s) k ts) (kind_firm (kind_of s) k ts x.state (repair_firm r k at s st h))
 

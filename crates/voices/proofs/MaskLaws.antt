@@ -17,7 +17,9 @@ use Rattle.paths.specs.Row.{Spine, line, branch, outside}
 use Rattle.paths.specs.Voices.{holds, lowest, with_voice}
 use Rattle.paths.proofs.LoopLaws.{holds_line, holds_branch, holds_outside}
 use Rattle.spines.specs.Cells.{spine_of, row_of}
-use Rattle.voices.specs.Mask.{bit, WithVoice, Cleared, Account}
+use Rattle.std.proofs.Common as Std
+use Rattle.std.proofs.Common.{Some, None, MatchOption}
+use Rattle.voices.specs.Mask.{bit, voice_of, WithVoice, Cleared, Account}
 use Rattle.spines.proofs.CellLaws.{cell_outside, cell_line, cell_branch, row_take}
 
 -- ---- one mask
@@ -69,6 +71,13 @@ module _ (held : ℕ → Bool) where
   pub lowest_none : ((w : ℕ) → w < 4 → held w ≡ true) → none ≡ lowest held
   unfolding lowest
   lowest_none up = rw (up 0 (omega arith), up 1 (omega arith), up 2 (omega arith), up 3 (omega arith))
+
+  -- what a search of the four finds
+  pub lowest_found : (r : Std.Option ℕ)
+      → MatchOption r ((w : ℕ) → 0 ≤ w → w < 4 → held w ≡ true) (λ v. (0 ≤ v) × (v < 4) × (held v ≡ false) × ((w : ℕ) → 0 ≤ w → w < v → held w ≡ true))
+      → voice_of r ≡ lowest held
+  lowest_found None h = lowest_none (λ w l. h w (omega arith) l)
+  lowest_found (Some v) h = lowest_at v h.1 (λ w l. h.3 w (omega arith) l) h.2
 
   pub lowest_low : (v : ℕ) → some v ≡ lowest held → v < 4
   unfolding lowest

@@ -1,8 +1,8 @@
 -- "Four bits say which voices a part holds."
 use Rattle.std.specs.Prelude.{◌≡◌, ℕ, suc, ◌/◌, ◌%◌, ◌^◌, ◌<◌, List, Bool, ◌||◌, eqb, length, get_or}
+use Rattle.std.specs.Prelude as Std
+use Rattle.std.specs.Prelude.{Some, None}
 use Rattle.std.proofs.Math.Option.{Option, none, some}
-use Rattle.voices.specs.declared.Found.{Found}
-use Rattle.voices.specs.declared.Found.TheVariants.{Voice, Full}
 
 -- the voice v is held: bit v of the mask
 unfoldable pub bit : ℕ → ℕ → Bool
@@ -13,9 +13,9 @@ pub record WithVoice (mask v m : ℕ) : Type 0 where
   pub more : (w : ℕ) → w < 4 → bit m w ≡ (eqb w v || bit mask w)
 
 -- what a search for a voice finds
-abbrev pub voice_of : Found → Option ℕ
-voice_of (Voice v) = some v
-voice_of Full = none
+abbrev pub voice_of : Std.Option ℕ → Option ℕ
+voice_of (Some v) = some v
+voice_of None = none
 
 -- the masks of the row's parts are clear; a part's mask stands at its number and 1, as in its cells
 pub record Cleared (cells masks : List ℕ) : Type 0 where

@@ -2,20 +2,11 @@
 
 // Voices for the branches of a row, and what a star record makes of the row.
 ghost use Rattle.std.specs.Prelude.{◌≡◌, min, ◌*◌, ◌/◌, ◌%◌, ◌+◌, ◌≤◌, ◌<◌, length, take};
-ghost use Rattle.paths.specs.Voices.{holds, lowest, voice_row, next, narrow, step_row};
+ghost use Rattle.paths.specs.Voices.{holds, lowest, voice_row, narrow, step_row};
 ghost use Rattle.spines.specs.Cells.{spine_of, row_of, is_branch};
 ghost use Rattle.spines.specs.Tokens.{record_tokens};
 ghost use Rattle.voices.specs.Mask.{bit, WithVoice, voice_of, Cleared, Account};
 ghost use Rattle.voices.specs.Outcome.{given_of, outcome_of, active_after};
-
-use spines::Runs;
-
-// What a search for a voice finds.
-#[derive(Clone, Copy)]
-enum Found {
-    Voice(u8),
-    Full,
-}
 
 // Whether a voice is held.
 fn taken(mask: u8, voice: u8) -> bool
@@ -34,24 +25,17 @@ fn with_voice(mask: u8, voice: u8) -> u8
 }
 
 // The lowest voice that isn't held.
-fn lowest_free(mask: u8) -> Found
+fn lowest_free(mask: u8) -> Option<u8>
     ensures { voice_of result ≡ lowest (bit mask) }
 {
-    let mut v = 0u8;
-    while v < 4 {
-        if !taken(mask, v) {
-            return Found::Voice(v);
-        }
-        v += 1;
-    }
-    Found::Full
+    (0..4).find(|voice| !taken(mask, *voice))
 }
 
 // Where the mask of a cell's part stands.
 fn place(cell: u16) -> usize
     ensures { (result ≡ cell / 8) × (result < 8192) }
 {
-    (cell / 8) as usize
+    usize::from(cell / 8)
 }
 
 // A line's voice.
@@ -66,17 +50,14 @@ fn voiced(cell: u16, voice: u8) -> u16
     requires { voice < 4 }
     ensures { result ≡ cell / 8 * 8 + voice }
 {
-    cell / 8 * 8 + voice as u16
+    cell / 8 * 8 + u16::from(voice)
 }
 
 // Whether a cell is a branch that still needs a voice.
 fn is_branch(cell: u16) -> bool
     ensures { result ≡ is_branch (spine_of cell) }
 {
-    if cell < 8 {
-        return false;
-    }
-    3 < cell % 8
+    cell >= 8 && cell % 8 > 3
 }
 
 // Clears the masks of a row's parts.
@@ -84,11 +65,8 @@ fn clear(cells: &[u16], masks: &mut [u8])
     requires { length masks.old ≡ 8192 }
     ensures { Cleared cells.now masks.new }
 {
-    let mut i = 0;
-    while i < cells.len() {
-        let q = place(cells[i]);
-        masks[q] = 0;
-        i += 1;
+    for cell in cells {
+        masks[place(*cell)] = 0;
     }
 }
 
@@ -97,123 +75,79 @@ fn mark(cells: &[u16], masks: &mut [u8])
     requires { (length masks.old ≡ 8192) × Cleared cells.now masks.old }
     ensures { Account cells.now masks.new (holds (row_of cells.now)) }
 {
-    let mut i = 0;
-    while i < cells.len() {
-        let c = cells[i];
-        i += 1;
-        let v = voice_of(c);
-        let line = v < 4;
+    for cell in cells {
+        let voice = voice_of(*cell);
+        let line = voice < 4;
         if line {
-            let q = place(c);
-            let held = masks[q];
-            masks[q] = with_voice(held, v);
+            let q = place(*cell);
+            masks[q] = with_voice(masks[q], voice);
         }
     }
 }
 
-// Every branch has a voice, or the part of the first that finds none.
-#[derive(Clone, Copy)]
-pub enum Given {
-    All,
-    Without(u16),
-}
-
-// Gives the branches their voices, left to right: the masks tell the lines' voices.
-fn give(cells: &mut [u16], masks: &mut [u8]) -> Given
-    requires { (length masks.old ≡ 8192) × Account cells.old masks.old (holds (row_of cells.old)) }
-    ensures { given_of result cells.new ≡ voice_row (row_of cells.old) }
-{
-    let mut i = 0;
-    while i < cells.len() {
-        let at = i;
-        let c = cells[at];
-        i += 1;
-        if is_branch(c) {
-            let q = place(c);
-            let m = masks[q];
-            match lowest_free(m) {
-                Found::Voice(v) => {
-                    cells[at] = voiced(c, v);
-                    masks[q] = with_voice(m, v);
-                }
-                Found::Full => return Given::Without(c / 8 - 1),
-            }
-        }
-    }
-    Given::All
-}
-
-// The three passes over the cells of an array.
-fn give_of(next: &mut [u16], count: usize, masks: &mut [u8]) -> Given
-    requires { (length next.old ≡ 512) × (length masks.old ≡ 8192) }
-    ensures { given_of result (take (min count 512) next.new) ≡ voice_row (row_of (take (min count 512) next.old)) }
-{
-    let n = spines::at_most(count, 512);
-    clear(&next[..n], masks);
-    mark(&next[..n], masks);
-    give(&mut next[..n], masks)
-}
-
-// What a star record comes to: the next row's count; question 17 with a column; question 8 with a part; question 9 with a count.
-#[derive(Clone, Copy)]
-pub enum Step {
-    Next(usize),
+// Why a star record stops the reading: question 17 with a column, question 8 with a part, or question 9 with a count.
+#[derive(Clone, Copy, Debug, PartialEq, Eq)]
+pub enum Stop {
     Mixed(usize),
     Voiceless(u16),
     Wide(usize),
 }
 
-// Copies cells to the start of a row.
-fn copy(row: &mut [u16], cells: &[u16])
-    requires { length cells.now ≤ length row.old }
-    ensures { take (length cells.now) row.new ≡ cells.now }
+// Gives the branches their voices, left to right: the masks tell the lines' voices. The first that finds none stops it.
+fn give(cells: &mut [u16], masks: &mut [u8]) -> Result<(), Stop>
+    requires { (length masks.old ≡ 8192) × Account cells.old masks.old (holds (row_of cells.old)) }
+    ensures { given_of result cells.new ≡ voice_row (row_of cells.old) }
 {
-    let mut i = 0;
-    while i < cells.len() {
-        row[i] = cells[i];
-        i += 1;
+    for i in 0..cells.len() {
+        let cell = cells[i];
+        if is_branch(cell) {
+            let q = place(cell);
+            match lowest_free(masks[q]) {
+                Some(voice) => {
+                    cells[i] = voiced(cell, voice);
+                    masks[q] = with_voice(masks[q], voice);
+                }
+                None => return Err(Stop::Voiceless(cell / 8 - 1)),
+            }
+        }
     }
+    Ok(())
 }
 
-// Question 9 of a row that has its voices; the row is taken over where it passes.
-fn settle_row(row: &mut [u16], cells: &[u16]) -> Step
-    requires { length row.old ≡ 512 }
-    ensures { (outcome_of result row.new ≡ narrow (next (row_of cells.now))) × (active_after result ≤ 256) }
+// Voices for the next row in `cells`, then question 9; the row is taken over where it passes: how many spines are active then.
+fn settle(row: &mut [u16], cells: &mut [u16], masks: &mut [u8]) -> Result<usize, Stop>
+    requires { (length row.old ≡ 512) × (length masks.old ≡ 8192) }
+    ensures outcome { outcome_of result row.new ≡ narrow (voice_row (row_of cells.old)) }
+    ensures few { active_after result ≤ 256 }
 {
-    let n = cells.len();
-    if 256 < n {
-        return Step::Wide(n);
+    let count = cells.len();
+    clear(cells, masks);
+    mark(cells, masks);
+    give(cells, masks)?;
+    if count > 256 {
+        return Err(Stop::Wide(count));
     }
-    copy(row, cells);
-    Step::Next(n)
+    row[..count].copy_from_slice(cells);
+    Ok(count)
 }
 
-// Voices for the next row in `new`, then question 9.
-fn settle(row: &mut [u16], new: &mut [u16], n: usize, masks: &mut [u8]) -> Step
-    requires { (length row.old ≡ 512) × (length new.old ≡ 512) × (length masks.old ≡ 8192) × (n ≤ 512) }
-    ensures { (outcome_of result row.new ≡ narrow (voice_row (row_of (take n new.old)))) × (active_after result ≤ 256) }
-{
-    match give_of(new, n, masks) {
-        Given::All => settle_row(row, &new[..n]),
-        Given::Without(p) => Step::Voiceless(p),
-    }
-}
-
-// One star record: question 17, then the next row of the first `active` cells, at most 256, with its voices, over the old one. `new` is room for it.
+// One star record: question 17, then the next row of the first `active` cells, at most 256, with its voices, over the old one: how many spines
+// are active then. `new` is room for it.
 pub fn step_row(
     line: &[u8],
     row: &mut [u16; 512],
     active: usize,
     new: &mut [u16; 512],
     masks: &mut [u8; 8192],
-) -> Step
-    ensures { (outcome_of result row.new ≡ step_row (row_of (take (min active 256) row.old)) (record_tokens (min active 256) line.now)) × (active_after result ≤ 256) }
+) -> Result<usize, Stop>
+    ensures outcome { outcome_of result row.new ≡ step_row (row_of (take (min active 256) row.old)) (record_tokens (min active 256) line.now) }
+    ensures few { active_after result ≤ 256 }
 {
     match spines::mixed_run(line, row, active) {
-        Runs::Alike => {
-            let n = spines::next_row(line, row, active, new);
-            settle(row, new, n, masks)
+        Some(column) => Err(Stop::Mixed(column)),
+        None => {
+            let count = spines::next_row(line, row, active, new);
+            settle(row, &mut new[..count], masks)
         }
-        Runs::Mixed(column) => Step::Mixed(column),
     }
 }

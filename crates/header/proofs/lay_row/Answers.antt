@@ -14,11 +14,11 @@ pub bounds-row-i : goal.bounds-row-i
 bounds-row-i c = omega (arith, c.loop-i.invariant.kept)
 
 pub loop-i-preserved : goal.loop-i-preserved
-loop-i-preserved c = laying_turn c.loop-i.invariant c.well_formed.0.1.0.1 c.requires.1 c.loop-i-test.true c.cell_at.ensures
+loop-i-preserved c = laying_turn c.loop-i.invariant c.requires.2 (omega (arith, c.requires)) (omega arith) c.cell_at.ensures
 
 -- the row keeps its length
 pub shape_of-row : goal.shape_of-row
 shape_of-row c = c.loop-i.invariant.kept ∙ sym c.requires.0
 
 pub returns : goal.returns
-returns c = laying_past c.loop-i.invariant c.loop-i-test.false
+returns c = laying_past c.loop-i.invariant (omega arith)

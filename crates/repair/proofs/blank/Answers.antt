@@ -1,33 +1,16 @@
--- Whether the tokens from an index on are empty: those passed were.
-use native.Mathlib.Omega.{arith}
-use mathlib.Core.Path.{refl, sym, ◌∙◌}
-use Rattle.lines.proofs.PieceLaws.{piece_at_lem}
-use Rattle.repair.proofs.EachLaws.{each_turn, each_not, each_past}
+-- The tokens behind the first k, each tested.
+use Rattle.std.proofs.Common.{rules, ◌∙◌}
+use borrow.Author.Tests.{tests}
+use Rattle.std.proofs.lemmas.Iterator.Search.{all_from_yields_List}
+use Rattle.lines.proofs.ChainLaws.{YieldsList-from_tokens}
+use Rattle.std.proofs.lemmas.Iterator.Adapters.{YieldsList-from_skip}
+use Rattle.lines.specs.Tokens.{is_empty}
+use Rattle.repair.proofs.EachLaws.{list_all_each}
 use Rattle.repair.proofs.blank.Goals as goal
 
-pub loop-from-init : goal.loop-from-init
-loop-from-init c = record { same = refl }
-
-pub slice_bounds-is_empty-count : goal.slice_bounds-is_empty-count
-slice_bounds-is_empty-count c = omega (arith, piece_at_lem c.loop-from-test.true c.token_end-end.ensures)
-
-pub slice_bounds-is_empty-start : goal.slice_bounds-is_empty-start
-slice_bounds-is_empty-start c = omega (arith, piece_at_lem c.loop-from-test.true c.token_end-end.ensures)
-
-pub slice_bounds-is_empty-end : goal.slice_bounds-is_empty-end
-slice_bounds-is_empty-end c = omega (arith, piece_at_lem c.loop-from-test.true c.token_end-end.ensures)
-
-pub returns-then-not-is_empty : goal.returns-then-not-is_empty
-returns-then-not-is_empty c = each_not c.loop-from.invariant (piece_at_lem c.loop-from-test.true c.token_end-end.ensures) (sym c.is_empty.ensures ∙ c.if-not-is_empty.true)
-
-pub overflow_add-from : goal.overflow_add-from
-overflow_add-from c = omega (arith, piece_at_lem c.loop-from-test.true c.token_end-end.ensures)
-
-pub loop-from-smaller : goal.loop-from-smaller
-loop-from-smaller c = omega (arith, piece_at_lem c.loop-from-test.true c.token_end-end.ensures)
-
-pub loop-from-preserved : goal.loop-from-preserved
-loop-from-preserved c = each_turn c.loop-from.invariant (piece_at_lem c.loop-from-test.true c.token_end-end.ensures) (sym c.is_empty.ensures ∙ c.if-not-is_empty.false)
-
 pub returns : goal.returns
-returns c = each_past c.loop-from.invariant c.loop-from-test.false
+returns c =
+    all_from_yields_List is_empty _ _ _ c.all.ensures.ran
+    (YieldsList-from_skip c.args.k (YieldsList-from_tokens _ c.args.line.now (cc) (cc) (cc) (λ x b q k. search (rules, tests))) c.skip.ensures.count)
+    (λ x b q k. search (rules, tests))
+    ∙ list_all_each is_empty _

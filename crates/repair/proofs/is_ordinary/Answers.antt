@@ -1,32 +1,13 @@
 -- A token that begins `*` and is none of the five path tokens.
-use mathlib.Core.Path.{sym, ◌∙◌}
-use Rattle.repair.specs.Repair.{is_ordinary}
+use Rattle.std.proofs.Common.{sym, ap, ◌∙◌}
+use Rattle.repair.specs.Repair.{is_other, is_ordinary}
+use Rattle.repair.proofs.EachLaws.{other_same}
 use Rattle.repair.proofs.is_ordinary.Goals as goal
 
-pub returns-then-not-is_star : goal.returns-then-not-is_star
+pub returns-then-is_star : goal.returns-then-is_star
 unfolding is_ordinary
-returns-then-not-is_star c = sym (rw (sym c.is_star.ensures ∙ c.if-not-is_star.true))
+returns-then-is_star c = c.eq.ensures ∙ other_same _ ∙ ap is_other c.path_token.ensures ∙ sym (rw (sym c.is_star.ensures ∙ c.if-is_star.true))
 
-pub returns-in-Other : goal.returns-in-Other
+pub returns-else-is_star : goal.returns-else-is_star
 unfolding is_ordinary
-returns-in-Other c = sym (rw (sym c.is_star.ensures ∙ c.if-not-is_star.false, sym c.path_token.ensures ∙ c.in-Other.is))
-
-pub returns-in-Split : goal.returns-in-Split
-unfolding is_ordinary
-returns-in-Split c = sym (rw (sym c.is_star.ensures ∙ c.if-not-is_star.false, sym c.path_token.ensures ∙ c.in-Split.is))
-
-pub returns-in-Join : goal.returns-in-Join
-unfolding is_ordinary
-returns-in-Join c = sym (rw (sym c.is_star.ensures ∙ c.if-not-is_star.false, sym c.path_token.ensures ∙ c.in-Join.is))
-
-pub returns-in-Exchange : goal.returns-in-Exchange
-unfolding is_ordinary
-returns-in-Exchange c = sym (rw (sym c.is_star.ensures ∙ c.if-not-is_star.false, sym c.path_token.ensures ∙ c.in-Exchange.is))
-
-pub returns-in-End : goal.returns-in-End
-unfolding is_ordinary
-returns-in-End c = sym (rw (sym c.is_star.ensures ∙ c.if-not-is_star.false, sym c.path_token.ensures ∙ c.in-End.is))
-
-pub returns-in-Add : goal.returns-in-Add
-unfolding is_ordinary
-returns-in-Add c = sym (rw (sym c.is_star.ensures ∙ c.if-not-is_star.false, sym c.path_token.ensures ∙ c.in-Add.is))
+returns-else-is_star c = c.if-is_star.false ∙ sym (rw (sym c.is_star.ensures ∙ c.if-is_star.false))

@@ -1,9 +1,12 @@
--- By whether the spine is kern.
-use Rattle.spines.proofs.TableLaws.{cell_kern, cell_none}
+-- By whether the column has a line.
+use Rattle.std.proofs.Common.{sym, rules}
+use Rattle.spines.specs.Table.{cell_of}
 use Rattle.spines.proofs.cell_at.Goals as goal
 
-pub returns-then-spine : goal.returns-then-spine
-returns-then-spine c = cell_kern c.active_at-spine.ensures c.if-spine.true
+pub returns-in-Some : goal.returns-in-Some
+unfolding cell_of
+returns-in-Some c = rw (sym c.in-Some.ensures) (search rules)
 
-pub returns : goal.returns
-returns c = cell_none c.active_at-spine.ensures c.if-spine.false
+pub returns-in-None : goal.returns-in-None
+unfolding cell_of
+returns-in-None c = rw (sym c.in-None.ensures)

@@ -1,5 +1,7 @@
 -- Both are `*x`, and the first doesn't exchange with the one to its left.
 use native.Mathlib.Omega.{arith}
+use mathlib.Core.Path.{◌∙◌}
+use Rattle.paths.proofs.TokenLaws.{exchange_same}
 use Rattle.slices.specs.Split.{pieces}
 use Rattle.spines.specs.Tokens.{path_tokens}
 use Rattle.lines.proofs.PieceLaws.{piece_at_lem}
@@ -21,10 +23,10 @@ slice_bounds-path_token-end c = omega (arith, piece_at_lem c.requires.1.0 c.requ
 pub overflow_add-end : goal.overflow_add-end
 overflow_add-end c = omega (arith, piece_at_lem c.requires.1.0 c.requires.1.1)
 
-pub returns-then-is_exchange : goal.returns-then-is_exchange
-returns-then-is_exchange c = let p = piece_at_lem c.requires.1.0 c.requires.1.1 in
-    right_is c.requires.0 p c.if-left.false (exchange_here c.requires.0 p c.path_token.ensures c.is_exchange.ensures) c.if-is_exchange.true c.exchange_at.ensures
+pub returns-then-eq : goal.returns-then-eq
+returns-then-eq c = let p = piece_at_lem c.requires.1.0 c.requires.1.1 in
+    right_is c.requires.0 p c.if-left.false (exchange_here c.requires.0 p c.path_token.ensures (c.eq.ensures ∙ exchange_same _)) c.if-eq.true c.exchange_at.ensures
 
 pub returns : goal.returns
 returns c = right_not (path_tokens c.args.n (pieces 9 c.args.from c.args.line.now)) c.args.left
-    (exchange_here c.requires.0 (piece_at_lem c.requires.1.0 c.requires.1.1) c.path_token.ensures c.is_exchange.ensures) c.if-is_exchange.false
+    (exchange_here c.requires.0 (piece_at_lem c.requires.1.0 c.requires.1.1) c.path_token.ensures (c.eq.ensures ∙ exchange_same _)) c.if-eq.false

@@ -1,11 +1,7 @@
 -- The row's outcome is that of the cells passed, with their voices, and of the rest, by what the whole row holds; the masks tell it.
-use Prim.Native.Nat.{◌-◌}
 use lib.ListN.{length}
 use Rattle.voices.proofs.GiveLaws.{Giving}
 use Rattle.voices.proofs.give.Given as goal
 
 abbrev pub invariant-loop-i : goal.invariant-loop-i
 invariant-loop-i l = Giving l.initial.cells l.cells l.masks (length l.initial.masks) l.i
-
-abbrev pub decreases-loop-i : goal.decreases-loop-i
-decreases-loop-i l = length l.initial.cells - l.i

@@ -1,15 +1,13 @@
--- The voices first, then question 9.
-use native.Mathlib.Omega.{arith}
-use mathlib.Core.Path.{sym}
-use lib.Seq.{length-take-le}
-use Rattle.voices.proofs.StepLaws.{settled, unsettled}
+-- The voices first, then question 9 by the count, then the copy.
+use Rattle.std.proofs.Common.{ap, ◌∙◌, arith}
+use Rattle.paths.specs.Voices.{narrow}
+use Rattle.voices.proofs.StepLaws.{too_wide, taken_over}
 use Rattle.voices.proofs.settle.Goals as goal
 
-pub slice_bounds-settle_row-end-in-All : goal.slice_bounds-settle_row-end-in-All
-slice_bounds-settle_row-end-in-All c = sym (length-take-le c.args.n c.give_of.new.next (omega (arith, c.give_of.auto.next, c.requires)))
+pub returns-then-count-gt256-clause-outcome : goal.returns-then-count-gt256-clause-outcome
+returns-then-count-gt256-clause-outcome c =
+    too_wide c.give.new.cells _ c.give.auto.cells c.if-count-gt256.true ∙ ap narrow c.in_ok-give.ensures
 
-pub returns-in-All : goal.returns-in-All
-returns-in-All c = (settled _ _ _ _ c.requires.3 c.give_of.ensures _ c.in-All.is c.settle_row.ensures.0, c.settle_row.ensures.1)
-
-pub returns-in-Without : goal.returns-in-Without
-returns-in-Without c = (unsettled _ _ _ _ c.requires.3 c.give_of.ensures _ c.in-Without.is, omega arith)
+pub returns-clause-outcome : goal.returns-clause-outcome
+returns-clause-outcome c =
+    taken_over c.give.new.cells _ c.give.auto.cells _ _ c.if-count-gt256.false c.copy_from_slice.ensures.after ∙ ap narrow c.in_ok-give.ensures
