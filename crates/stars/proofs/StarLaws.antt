@@ -78,7 +78,7 @@ pub star_few : (step : Answered ℕ Stop) (t : Tally) (k : ℕ) {r : Answered Ta
 star_few step t k h e = subst Few (sym e) (go step)
   where
     go : (s : Answered ℕ Stop) → Few (stepped s t k)
-    go (Next n) = h
-    go (Mixed c) = tt
-    go (Voiceless p) = tt
-    go (Wide n) = tt
+    go (Ok n) = h
+    go (Err (Mixed c)) = tt
+    go (Err (Voiceless p)) = tt
+    go (Err (Wide n)) = tt
