@@ -20,7 +20,7 @@ pub fn next_line(text: &[u8], at: usize) -> usize
 
 impl Place {
     // The place moves past a line.
-    // Stays: apart from past_line, since document 01 wants a `&mut` struct that one thin function moves.
+    // Stays: a rule of the project: a `&mut` struct for the place, moved by one thin function (docs/DECISIONS.md).
     pub fn advance(&mut self, text: &[u8])
         requires { ((self.old.at ≤ length text.now) × (length text.now ≤ 67108864)) × (self.old.line < 2 ^ 27) }
         ensures { (self.new.at ≡ piece_end 10 text.now self.old.at + 1) × (self.new.line ≡ self.old.line + 1) }

@@ -57,7 +57,7 @@ pub struct Bar {
     pub numerator: u8,
     pub denominator: u8,
     pub symbol: u8,
-    // Stays: (a) whether a key is given is a byte of the sheet beside the key's own two, which C and the player read there.
+    // Stays: the C interface: whether a key is given is a byte of the sheet beside the key's own two, which C and the player read there.
     pub key: u8,
     pub fifths: u8,
     pub mode: u8,
@@ -67,7 +67,7 @@ pub struct Bar {
 #[derive(Clone, Copy, PartialEq, Eq, Debug)]
 pub struct Part {
     pub part: u8,
-    // Stays: (a) whether a name is given is a byte of the sheet beside the name's span, which C and the player read there.
+    // Stays: the C interface: whether a name is given is a byte of the sheet beside the name's span, which C and the player read there.
     pub named: u8,
     pub clef: u8,
     pub name: Span,
