@@ -1,4 +1,4 @@
--- The searches over the ten values, as the chains go through them.
+-- The searches over the ten values, as the chains and the loop go through them.
 use Rattle.std.specs.Prelude.{Option, None, Some, IfSome, IsTrue}
 use Rattle.std.specs.Option.{MatchOption, IsSomeAnd, option_map}
 use Rattle.std.specs.Bool.{MatchBool}
@@ -128,6 +128,40 @@ module _ {F : Type 0} (g : Mut F (ℕ × Unit {0}) (Option Rest)) (f : F) (by : 
         (λ k h. ap (option_map (λ y. y)) (sym (same.0.2 k)) ∙ down.3 k (omega (arith, h, same.0.0))),
       )
       result run.2
+
+-- ---- the loop over the ten values
+
+-- what the values from v on give is what all give
+pub record Search (by : ℕ → Option Rest) (v : ℕ) : Type 0 where
+  pub high : v ≤ 10
+  pub same : longest_from by (10 - v) v ≡ longest by
+
+pub search_first : {by : ℕ → Option Rest} → Search by 0
+search_first = record { high = omega arith; same = refl }
+
+module _ {by : ℕ → Option Rest} {v : ℕ} (inv : Search by v) where
+  pub search_past : v ≡ 10 → None ≡ longest by
+  unfolding longest_from
+  search_past e = ap (λ (k : ℕ). longest_from by (10 - k) k) (sym e) ∙ inv.same
+
+  module _ (on : v ≡ 10 → ⊥) where
+    pub search_in : v < 10
+    search_in = omega (arith, inv.high)
+
+    step : longest by ≡ or_else (by v) (longest_from by (10 - (v + 1)) (v + 1))
+    unfolding longest_from
+    step =
+        let n : 10 - v ≡ suc (10 - (v + 1)) = omega (arith, search_in) in
+        sym inv.same ∙ ap (λ (k : ℕ). longest_from by k v) n
+
+    pub search_turn : by v ≡ None → Search by (v + 1)
+    search_turn e = record {
+      high = omega (arith, search_in);
+      same = sym (step ∙ ap (λ (x : Option Rest). or_else x (longest_from by (10 - (v + 1)) (v + 1))) e);
+    }
+
+    pub search_found : {r : Rest} → by v ≡ Some r → Some r ≡ longest by
+    search_found e = sym (step ∙ ap (λ (x : Option Rest). or_else x (longest_from by (10 - (v + 1)) (v + 1))) e)
 
 -- ---- whether a value lasts just the ticks
 

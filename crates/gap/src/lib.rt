@@ -160,7 +160,18 @@ fn tuplet(divisions: u32, ticks: u32) -> Option<Rest>
 fn plain(divisions: u32, ticks: u32) -> Option<Rest>
     ensures { result ≡ longest (plain_by divisions ticks) }
 {
-    (0..10).find_map(|value| plain_by(divisions, ticks, value))
+    let mut value = 0;
+    // Stays: a rule of the project asks for a loop that yields the chosen value by break.
+    let rest = loop {
+        if value == 10 {
+            return None;
+        }
+        if let Some(rest) = plain_by(divisions, ticks, value) {
+            break rest;
+        }
+        value += 1;
+    };
+    Some(rest)
 }
 
 // The next rest: a triplet, else one tuplet, else the longest value that fits.
