@@ -90,7 +90,11 @@ pub extern "C" fn kern_part_name(
     ensures length { result ≡ length (name_of text.now (given_name given at len) (spine_name part)) }
     ensures buffer { out.new ≡ stored out.old (name_of text.now (given_name given at len) (spine_name part)) }
 {
-    let given = if given == 0 { None } else { Some(Span { at, len }) };
+    let given = if given == 0 {
+        None
+    } else {
+        Some(Span { at, len })
+    };
     let fallback = SpineName::new(part);
     let name = names::part_name(text, given, fallback.as_bytes());
     slices::put(out, name);

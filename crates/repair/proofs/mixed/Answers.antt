@@ -12,10 +12,10 @@ use Rattle.repair.proofs.mixed.Goals as goal
 pub returns-then-is_star : goal.returns-then-is_star
 returns-then-is_star c =
     ap not (
-      all_from_yields_List is_star _ _ _ c.all.ensures.ran
-      (YieldsList-from_take c.args.k (YieldsList-from_tokens _ c.args.line.now (cc) (cc) (cc) (λ x b q k. search (rules, tests))) c.take.ensures.count)
-      (λ x b q k. search (rules, tests))
-      ∙ list_all_each is_star _
+    all_from_yields_List is_star _ _ _ c.all.ensures.ran
+    (YieldsList-from_take c.args.k (YieldsList-from_tokens _ c.args.line.now (cc) (cc) (cc) (λ x b q k. search (rules, tests))) c.take.ensures.count)
+    (λ x b q k. search (rules, tests))
+    ∙ list_all_each is_star _
     )
     ∙ sym (rw (← star_first c.args.line.now, sym c.if-is_star.ensures))
 

@@ -27,7 +27,7 @@ returns-then-count-active c =
     let o : each is_ordinary (tokens_of c.args.line.now) ≡ false = sym c.ordinary.ensures ∙ c.if-ordinary.false in
     ap (λ k. Err (Uneven k)) c.token_count-count.ensures.0
     ∙ elim c.else-several.branch [
-        else-several-via-then-several+else-identical_bars w ↦ few_other _ _ (omega arith) o (omega arith) (sym w.identical_bars.ensures ∙ w.if-identical_bars.false)
+      | else-several-via-then-several+else-identical_bars w ↦ few_other _ _ (omega arith) o (omega arith) (sym w.identical_bars.ensures ∙ w.if-identical_bars.false)
       | else-several-via-else-several w ↦ few_one _ _ (omega arith) o (omega arith)
     ]
 

@@ -27,11 +27,11 @@ returns-in-None c =
 pub loop-i-preserved : goal.loop-i-preserved
 loop-i-preserved c =
     elim c.if-is_branch.branch [
-      then-is_branch+in-Some w ↦ rw (w.cells-is, w.masks-is) (
-        giving_voice c.loop-i.invariant (omega arith) (sym c.is_branch.ensures ∙ w.if-is_branch.true) (ap (λ (k : ℕ). get_or c.loop-i.masks k 0) w.place-q.ensures.0)
-        w.in-Some.ensures w.voiced.ensures w.place-q.ensures.0 (omega (arith, w.place-q.ensures, c.requires)) w.with_voice.ensures
-      )
-    | else-is_branch w ↦ rw (w.cells-is, w.masks-is) (giving_keep c.loop-i.invariant (omega arith) (sym c.is_branch.ensures ∙ w.if-is_branch.false))
+      | then-is_branch+in-Some w ↦ rw (w.cells-is, w.masks-is) (
+          giving_voice c.loop-i.invariant (omega arith) (sym c.is_branch.ensures ∙ w.if-is_branch.true) (ap (λ (k : ℕ). get_or c.loop-i.masks k 0) w.place-q.ensures.0)
+          w.in-Some.ensures w.voiced.ensures w.place-q.ensures.0 (omega (arith, w.place-q.ensures, c.requires)) w.with_voice.ensures
+          )
+      | else-is_branch w ↦ rw (w.cells-is, w.masks-is) (giving_keep c.loop-i.invariant (omega arith) (sym c.is_branch.ensures ∙ w.if-is_branch.false))
     ]
 
 pub returns : goal.returns

@@ -10,11 +10,11 @@ loop-cell-init c = marking_first c.requires.1
 pub loop-cell-preserved : goal.loop-cell-preserved
 loop-cell-preserved c =
     elim c.if-line.branch [
-      then-line w ↦ rw w.masks-is (
-        marking_line c.loop-cell.invariant c.loop-cell-test.true c.voice_of-voice.ensures (omega arith) w.place-q.ensures.0 (omega (arith, w.place-q.ensures, c.requires))
-        w.with_voice.ensures
-      )
-    | else-line w ↦ rw w.masks-is (marking_pass c.loop-cell.invariant c.loop-cell-test.true (omega (arith, c.voice_of-voice.ensures)))
+      | then-line w ↦ rw w.masks-is (
+          marking_line c.loop-cell.invariant c.loop-cell-test.true c.voice_of-voice.ensures (omega arith) w.place-q.ensures.0 (omega (arith, w.place-q.ensures, c.requires))
+          w.with_voice.ensures
+          )
+      | else-line w ↦ rw w.masks-is (marking_pass c.loop-cell.invariant c.loop-cell-test.true (omega (arith, c.voice_of-voice.ensures)))
     ]
 
 pub returns : goal.returns
