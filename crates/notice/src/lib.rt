@@ -4,99 +4,104 @@
 ghost use Rattle.std.specs.Prelude.{◌≡◌, ◌<◌, ◌↔◌, [], IsSome, MatchOption};
 ghost use Rattle.notice.specs.Table.{code_of, reason_of};
 
-// The table of the notices 1 to 21, code and reason of each; None for a number that is no notice.
+// The table of the notices 1 to 21, code and reason of each.
+const TABLE: [(&str, &str); 21] = [
+    (
+        "humdrum.unsupported-reference",
+        "Humdrum reference record is not represented in the score model",
+    ),
+    (
+        "humdrum.unsupported-spine",
+        "only **kern spines are imported",
+    ),
+    (
+        "humdrum.unsupported-segment",
+        "records after every spine terminated are not imported",
+    ),
+    (
+        "humdrum.trailing-empty-field",
+        "trailing empty tab fields were ignored",
+    ),
+    (
+        "humdrum.missing-null-interpretation",
+        "missing trailing interpretation fields were treated as null interpretations",
+    ),
+    (
+        "humdrum.missing-barline-field",
+        "missing trailing barline fields were copied from identical barlines",
+    ),
+    (
+        "humdrum.unsupported-spine-add",
+        "a spine added with *+ is not imported",
+    ),
+    (
+        "humdrum.unsupported-mid-measure-change",
+        "clef, key and meter changes inside a bar are not imported",
+    ),
+    (
+        "humdrum.unsupported-interpretation",
+        "clef is outside the supported subset",
+    ),
+    (
+        "humdrum.unsupported-interpretation",
+        "malformed key signature",
+    ),
+    (
+        "humdrum.unsupported-interpretation",
+        "non-standard key signature",
+    ),
+    (
+        "humdrum.unsupported-interpretation",
+        "meter is outside the supported subset",
+    ),
+    (
+        "humdrum.unsupported-interpretation",
+        "mensuration sign is outside the subset",
+    ),
+    (
+        "humdrum.unsupported-interpretation",
+        "tempo is outside the supported subset",
+    ),
+    (
+        "humdrum.unsupported-interpretation",
+        "interpretation is outside the supported subset",
+    ),
+    (
+        "humdrum.unsupported-duration",
+        "rational (%) or repeated durations are outside the subset",
+    ),
+    (
+        "humdrum.unsupported-signifier",
+        "kern signifiers outside the supported subset were not imported",
+    ),
+    (
+        "humdrum.unsupported-token",
+        "data token has neither a pitch nor a rest",
+    ),
+    (
+        "humdrum.unsupported-duration",
+        "reciprocal duration is outside the supported range",
+    ),
+    (
+        "humdrum.inferred-duration",
+        "missing reciprocal duration was inferred from aligned music spines",
+    ),
+    (
+        "humdrum.missing-duration",
+        "a non-grace kern token needs a duration",
+    ),
+];
+
+// The table's row of a number; None for a number that is no notice.
 #[tactic(auto, unfolding(crate::specs::Table::table))]
 fn row(number: u8) -> Option<(&'static str, &'static str)>
     ensures known { IsSome result ↔ (0 < number) × (number < 22) }
     ensures value { MatchOption result ((code_of number ≡ []) × (reason_of number ≡ [])) (λ r. (r.0.now ≡ code_of number) × (r.1.now ≡ reason_of number)) }
 {
-    match number {
-        1 => Some((
-            "humdrum.unsupported-reference",
-            "Humdrum reference record is not represented in the score model",
-        )),
-        2 => Some((
-            "humdrum.unsupported-spine",
-            "only **kern spines are imported",
-        )),
-        3 => Some((
-            "humdrum.unsupported-segment",
-            "records after every spine terminated are not imported",
-        )),
-        4 => Some((
-            "humdrum.trailing-empty-field",
-            "trailing empty tab fields were ignored",
-        )),
-        5 => Some((
-            "humdrum.missing-null-interpretation",
-            "missing trailing interpretation fields were treated as null interpretations",
-        )),
-        6 => Some((
-            "humdrum.missing-barline-field",
-            "missing trailing barline fields were copied from identical barlines",
-        )),
-        7 => Some((
-            "humdrum.unsupported-spine-add",
-            "a spine added with *+ is not imported",
-        )),
-        8 => Some((
-            "humdrum.unsupported-mid-measure-change",
-            "clef, key and meter changes inside a bar are not imported",
-        )),
-        9 => Some((
-            "humdrum.unsupported-interpretation",
-            "clef is outside the supported subset",
-        )),
-        10 => Some((
-            "humdrum.unsupported-interpretation",
-            "malformed key signature",
-        )),
-        11 => Some((
-            "humdrum.unsupported-interpretation",
-            "non-standard key signature",
-        )),
-        12 => Some((
-            "humdrum.unsupported-interpretation",
-            "meter is outside the supported subset",
-        )),
-        13 => Some((
-            "humdrum.unsupported-interpretation",
-            "mensuration sign is outside the subset",
-        )),
-        14 => Some((
-            "humdrum.unsupported-interpretation",
-            "tempo is outside the supported subset",
-        )),
-        15 => Some((
-            "humdrum.unsupported-interpretation",
-            "interpretation is outside the supported subset",
-        )),
-        16 => Some((
-            "humdrum.unsupported-duration",
-            "rational (%) or repeated durations are outside the subset",
-        )),
-        17 => Some((
-            "humdrum.unsupported-signifier",
-            "kern signifiers outside the supported subset were not imported",
-        )),
-        18 => Some((
-            "humdrum.unsupported-token",
-            "data token has neither a pitch nor a rest",
-        )),
-        19 => Some((
-            "humdrum.unsupported-duration",
-            "reciprocal duration is outside the supported range",
-        )),
-        20 => Some((
-            "humdrum.inferred-duration",
-            "missing reciprocal duration was inferred from aligned music spines",
-        )),
-        21 => Some((
-            "humdrum.missing-duration",
-            "a non-grace kern token needs a duration",
-        )),
-        _ => None,
+    if 0 < number && number < 22 {
+        return Some(TABLE[usize::from(number) - 1]);
     }
+    None
 }
 
 // The code of a notice; None for a number that is no notice.
