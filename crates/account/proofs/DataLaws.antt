@@ -15,7 +15,8 @@ use Rattle.token.specs.Outcome.{Outcome, notice_number, read_token, reported}
 use Rattle.token.specs.declared.outcome.Note.{Note}
 use Rattle.std.specs.Prelude.{Some, None, Ok, Err}
 use Rattle.token.proofs.AccountLaws.{is_heard, note_agrees, length_agrees}
-use Rattle.paths.specs.Row.{Spine, line, branch, outside}
+use Rattle.paths.specs.declared.Spine.{Spine}
+use Rattle.paths.specs.declared.Spine.TheVariants.{Line, Branch, Outside}
 use Rattle.sheet.specs.Player.{notes_of}
 use Rattle.reading.specs.State.{State, Result, Step, refused, goes, ends, part_at, with_part, with_notes}
 use Rattle.reading.specs.declared.Part.{Part}
@@ -90,9 +91,9 @@ module _ {st : State} (is js : List Item) where
 -- each column is what the text says of it: a line of its part, one of m parts; or outside kern
 module _ (partAt-text : ℕ → Option ℕ) (m : ℕ) where
   abbrev pub Column : ℕ → Spine → Type 0
-  Column i (line p v) = (partAt-text i ≡ some p) × (p < m)
-  Column i (branch p) = ⊥
-  Column i outside = partAt-text i ≡ none
+  Column i (Line p v) = (partAt-text i ≡ some p) × (p < m)
+  Column i (Branch p) = ⊥
+  Column i Outside = partAt-text i ≡ none
 
   abbrev pub Columns : ℕ → List Spine → Type 0
   Columns i [] = Unit {0}
@@ -119,10 +120,10 @@ module _ (partAt-text : ℕ → Option ℕ) (all : List (List ℕ)) (kern : List
         → Adds st (record {
           state = with_notes (with_part st p (sounded (part_at st p) v t.bytes)) (st.notes + 1);
           records = note_record p v k (i + 1) t.bytes n st ∷ [];
-        }) (item_at p i (line p v) t.bytes ∷ [])
+        }) (item_at p i (Line p v) t.bytes ∷ [])
     unfolding notes_of note_record played_length
     note_adds n st e b l = record {
-      agree = one_more {i = item_at p i (line p v) t.bytes} (record {
+      agree = one_more {i = item_at p i (Line p v) t.bytes} (record {
         part = refl;
         voice = refl;
         bar = b;
@@ -140,7 +141,7 @@ module _ (partAt-text : ℕ → Option ℕ) (all : List (List ℕ)) (kern : List
 
     -- "20 inferred", and "at most the 100,000th"
     add_adds : (n : Note) (st : State) → read_token t.bytes (inferred_of all kern i t.bytes) ≡ Ok (Some n) → st.bars + 1 ≡ bar → p < length st.parts
-        → StepAdds st (add_note p v k (i + 1) t n st) (item_at p i (line p v) t.bytes ∷ [])
+        → StepAdds st (add_note p v k (i + 1) t n st) (item_at p i (Line p v) t.bytes ∷ [])
     unfolding add_note
     add_adds n st e b l = go (ltb st.notes 100000) (cond n.inferred (notify 20 k (i + 1) (span_of_token t) st) (quiet st)) (first n.inferred)
       where
@@ -157,12 +158,12 @@ module _ (partAt-text : ℕ → Option ℕ) (all : List (List ℕ)) (kern : List
               records = note_record p v k (i + 1) t.bytes n s ∷ [];
             })))
             (refused 10 k 0))
-            (item_at p i (line p v) t.bytes ∷ [])
+            (item_at p i (Line p v) t.bytes ∷ [])
         go true r a = then_adds a (note_adds n r.state e (ap (λ (m : ℕ). m + 1) a.bars ∙ b) (subst (λ (m : ℕ). p < m) (sym a.size) l))
         go false r a = tt
 
     outcome_adds : (o : Outcome) (st : State) → read_token t.bytes (inferred_of all kern i t.bytes) ≡ o → st.bars + 1 ≡ bar → p < length st.parts
-        → StepAdds st (by_outcome o p v k (i + 1) t st) (cond (is_heard o) (item_at p i (line p v) t.bytes ∷ []) [])
+        → StepAdds st (by_outcome o p v k (i + 1) t st) (cond (is_heard o) (item_at p i (Line p v) t.bytes ∷ []) [])
     outcome_adds (Ok None) st e b l = quiet_adds st
     outcome_adds (Err why) st e b l = notify_adds (notice_number why) k (i + 1) (span_of_token t) st
     outcome_adds (Ok (Some n)) st e b l = add_adds n st e b l
@@ -172,7 +173,7 @@ module _ (partAt-text : ℕ → Option ℕ) (all : List (List ℕ)) (kern : List
     signify_adds (x ∷ bytes) st = signifiers_adds k (i + 1) (x ∷ bytes) st
 
     token_adds : (st : State) → st.bars + 1 ≡ bar → p < length st.parts
-        → StepAdds st (read_token_at all kern p v k i t st) (item_in partAt-text all kern k bar (some p) i (line p v) t.bytes)
+        → StepAdds st (read_token_at all kern p v k i t st) (item_in partAt-text all kern k bar (some p) i (Line p v) t.bytes)
     unfolding read_token_at inferred_for inferred_of
     token_adds st b l = go (is_null t.bytes)
       where
@@ -185,12 +186,12 @@ module _ (partAt-text : ℕ → Option ℕ) (all : List (List ℕ)) (kern : List
         a : Adds st r []
         a = signify_adds (reported t.bytes) st
 
-        spoken : StepAdds r.state (by_outcome (read_token t.bytes inferred) p v k (i + 1) t r.state) (cond (is_note t.bytes inferred) (item_at p i (line p v) t.bytes ∷ []) [])
+        spoken : StepAdds r.state (by_outcome (read_token t.bytes inferred) p v k (i + 1) t r.state) (cond (is_note t.bytes inferred) (item_at p i (Line p v) t.bytes ∷ []) [])
         spoken = rw (← note_agrees t.bytes inferred)
             (outcome_adds (read_token t.bytes inferred) r.state refl (ap (λ (m : ℕ). m + 1) a.bars ∙ b) (subst (λ (m : ℕ). p < m) (sym a.size) l))
 
         go : (x : Bool) → StepAdds st (cond x (goes (quiet st)) (behind r (by_outcome (read_token t.bytes inferred) p v k (i + 1) t)))
-            (cond x [] (cond (is_note t.bytes inferred) (item_at p i (line p v) t.bytes ∷ []) []))
+            (cond x [] (cond (is_note t.bytes inferred) (item_at p i (Line p v) t.bytes ∷ []) []))
         go true = quiet_adds st
         go false = behind_adds [] _ r (by_outcome (read_token t.bytes inferred) p v k (i + 1) t) a spoken
 
@@ -198,9 +199,9 @@ module _ (partAt-text : ℕ → Option ℕ) (all : List (List ℕ)) (kern : List
 
   spine_adds : (s : Spine) (i : ℕ) (t : Token) (st : State) → st.bars + 1 ≡ bar → Column partAt-text (length st.parts) i s
       → StepAdds st (read_spine s all kern k i t st) (item_in partAt-text all kern k bar (partAt-text i) i s t.bytes)
-  spine_adds (line p v) i t st b (e, l) = rw e (token_adds p v i t st b l)
-  spine_adds (branch p) i t st b c = absurd c
-  spine_adds outside i t st b c = rw c (quiet_adds st)
+  spine_adds (Line p v) i t st b (e, l) = rw e (token_adds p v i t st b l)
+  spine_adds (Branch p) i t st b c = absurd c
+  spine_adds Outside i t st b c = rw c (quiet_adds st)
 
   pub tokens_add : (i : ℕ) (row : List Spine) (ts : List Token) (st : State) → st.bars + 1 ≡ bar → Columns partAt-text (length st.parts) i row
       → StepAdds st (read_tokens all kern k i row ts st) (items_from partAt-text all kern k bar i row (map (λ (t : Token). t.bytes) ts))

@@ -15,7 +15,9 @@ use Rattle.lines.specs.declared.Kind.TheVariants.{Empty, Reference, Comment, Sta
 use Rattle.token.specs.Account.{is_note}
 use Rattle.paths.specs.Demand.{At}
 use Rattle.paths.specs.Record.{Rec, plain}
-use Rattle.paths.specs.Row.{Spine, line, branch, outside, spine_at}
+use Rattle.paths.specs.Row.{spine_at}
+use Rattle.paths.specs.declared.Spine.{Spine}
+use Rattle.paths.specs.declared.Spine.TheVariants.{Line, Branch, Outside}
 use Rattle.paths.specs.Text.{header_row, reading, read_to}
 use Rattle.paths.specs.Trace.{part, columns}
 use Rattle.paths.specs.Voices.{Outcome, next, mixed, voiceless, wide}
@@ -47,42 +49,42 @@ shares_append a (x ∷ xs) ys (d, n) m = (d, shares_append a xs ys n m)
 
 -- lines of a row differ in part or voice
 abbrev Differ : List Spine → Type 0
-Differ row = (i j p v w : ℕ) → i ≢ j → spine_at row i ≡ line p v → spine_at row j ≡ line p w → v ≢ w
+Differ row = (i j p v w : ℕ) → i ≢ j → spine_at row i ≡ Line p v → spine_at row j ≡ Line p w → v ≢ w
 
 module _ (partAt-text : ℕ → Option ℕ) (all : List (List ℕ)) (kern : List Bool) (k bar m : ℕ) where
   -- an item with a part and a voice that no line of the row has
-  avoids : (a : Item) (j : ℕ) (row : List Spine) (ts : List (List ℕ)) → ((i : ℕ) → spine_at row i ≢ line a.part a.voice) → Columns partAt-text m j row
+  avoids : (a : Item) (j : ℕ) (row : List Spine) (ts : List (List ℕ)) → ((i : ℕ) → spine_at row i ≢ Line a.part a.voice) → Columns partAt-text m j row
       → SharesNone a (items_from partAt-text all kern k bar j row ts)
   unfolding items_from
   avoids a j [] ts d c = tt
   avoids a j (s ∷ row) [] d c = tt
-  avoids a j (line p v ∷ row) (t ∷ ts) d ((e, l), cs) = rw e (go (is_null t) (is_note t (inferred_of all kern j t)) (avoids a (suc j) row ts (λ i. d (suc i)) cs))
+  avoids a j (Line p v ∷ row) (t ∷ ts) d ((e, l), cs) = rw e (go (is_null t) (is_note t (inferred_of all kern j t)) (avoids a (suc j) row ts (λ i. d (suc i)) cs))
     where
       go : (x y : Bool) → SharesNone a (items_from partAt-text all kern k bar (suc j) row ts)
-          → SharesNone a (cond x [] (cond y (item_of partAt-text all kern k bar p j (line p v) t ∷ []) []) ++ items_from partAt-text all kern k bar (suc j) row ts)
+          → SharesNone a (cond x [] (cond y (item_of partAt-text all kern k bar p j (Line p v) t ∷ []) []) ++ items_from partAt-text all kern k bar (suc j) row ts)
       go true y n = n
       go false true n = (λ s. d 0 (rw (s.1, s.2)), n)
       go false false n = n
-  avoids a j (branch p ∷ row) (t ∷ ts) d (c, cs) = absurd c
-  avoids a j (outside ∷ row) (t ∷ ts) d (c, cs) = rw c (avoids a (suc j) row ts (λ i. d (suc i)) cs)
+  avoids a j (Branch p ∷ row) (t ∷ ts) d (c, cs) = absurd c
+  avoids a j (Outside ∷ row) (t ∷ ts) d (c, cs) = rw c (avoids a (suc j) row ts (λ i. d (suc i)) cs)
 
   -- the items of a record
   record_distinct : (j : ℕ) (row : List Spine) (ts : List (List ℕ)) → Differ row → Columns partAt-text m j row → Distinct (items_from partAt-text all kern k bar j row ts)
   unfolding items_from
   record_distinct j [] ts d c = tt
   record_distinct j (s ∷ row) [] d c = tt
-  record_distinct j (line p v ∷ row) (t ∷ ts) d ((e, l), cs) =
+  record_distinct j (Line p v ∷ row) (t ∷ ts) d ((e, l), cs) =
       rw e (go (is_null t) (is_note t (inferred_of all kern j t)) (record_distinct (suc j) row ts (λ i i' p v w n. d (suc i) (suc i') p v w (λ x. n (omega arith))) cs))
     where
       first : Item
-      first = item_of partAt-text all kern k bar p j (line p v) t
+      first = item_of partAt-text all kern k bar p j (Line p v) t
 
       go : (x y : Bool) → Distinct (items_from partAt-text all kern k bar (suc j) row ts) → Distinct (cond x [] (cond y (first ∷ []) []) ++ items_from partAt-text all kern k bar (suc j) row ts)
       go true y ds = ds
       go false true ds = (avoids first (suc j) row ts (λ i e. d 0 (suc i) p v v (λ x. omega arith) refl e refl) cs, ds)
       go false false ds = ds
-  record_distinct j (branch p ∷ row) (t ∷ ts) d (c, cs) = absurd c
-  record_distinct j (outside ∷ row) (t ∷ ts) d (c, cs) = rw c (record_distinct (suc j) row ts (λ i i' p v w n. d (suc i) (suc i') p v w (λ x. n (omega arith))) cs)
+  record_distinct j (Branch p ∷ row) (t ∷ ts) d (c, cs) = absurd c
+  record_distinct j (Outside ∷ row) (t ∷ ts) d (c, cs) = rw c (record_distinct (suc j) row ts (λ i i' p v w n. d (suc i) (suc i') p v w (λ x. n (omega arith))) cs)
 
 -- ---- the records of a text
 

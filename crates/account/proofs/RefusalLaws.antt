@@ -16,7 +16,8 @@ use Rattle.token.specs.Outcome.{Outcome, read_token, reported}
 use Rattle.token.specs.declared.outcome.Note.{Note}
 use Rattle.std.specs.Prelude.{Some, None, Ok, Err}
 use Rattle.paths.specs.declared.PathToken.{PathToken}
-use Rattle.paths.specs.Row.{Spine, line, branch, outside}
+use Rattle.paths.specs.declared.Spine.{Spine}
+use Rattle.paths.specs.declared.Spine.TheVariants.{Line, Branch, Outside}
 use Rattle.paths.specs.Token.{path_token}
 use Rattle.paths.specs.Voices.{Outcome as RowOutcome, next, mixed, voiceless, wide, step_row}
 use Rattle.paths.specs.Text.{Reading, reached, ended, refused as refusedRow, reading}
@@ -110,9 +111,9 @@ module _ (k : ℕ) (P : ℕ → ℕ → Type 0) where
         go r s false e = e
 
     spine_stops : (s : Spine) (i : ℕ) (t : Token) (st : State) → Stops (read_spine s all kern k i t st)
-    spine_stops (line p v) i t st = token_stops p v i t st
-    spine_stops (branch p) i t st = tt
-    spine_stops outside i t st = tt
+    spine_stops (Line p v) i t st = token_stops p v i t st
+    spine_stops (Branch p) i t st = tt
+    spine_stops Outside i t st = tt
 
     tokens_stop : (i : ℕ) (row : List Spine) (ts : List Token) (st : State) → Stops (read_tokens all kern k i row ts st)
     unfolding read_tokens

@@ -9,7 +9,8 @@ use lib.ListN.{length, drop, length-append, length-set}
 use Rattle.paths.specs.declared.PathToken.{PathToken}
 use Rattle.paths.specs.declared.PathToken.TheVariants.{Split, Join, Exchange, End, Add, Other}
 use Rattle.lines.specs.Tokens.{is_kern}
-use Rattle.paths.specs.Row.{Spine, line, branch, outside}
+use Rattle.paths.specs.declared.Spine.{Spine}
+use Rattle.paths.specs.declared.Spine.TheVariants.{Line, Branch, Outside}
 use Rattle.paths.specs.Token.{path_token}
 use Rattle.interpretation.specs.Interpretation.{interpretation_of}
 use Rattle.interpretation.specs.declared.Interpretation.{Interpretation}
@@ -172,9 +173,9 @@ module _ (st : State) (p : ℕ) where
   heeded_adds (Err why) k j t = notify_adds (notice_number why) k j _ st
 
 interpret_adds : (s : Spine) (k j : ℕ) (t : Token) (st : State) → Adds st (interpret s k j t st) []
-interpret_adds (line p v) k j t st = heeded_adds st p (interpretation_of t.bytes (part_at st p).noted) k j t
-interpret_adds (branch p) k j t st = quiet_adds st
-interpret_adds outside k j t st = quiet_adds st
+interpret_adds (Line p v) k j t st = heeded_adds st p (interpretation_of t.bytes (part_at st p).noted) k j t
+interpret_adds (Branch p) k j t st = quiet_adds st
+interpret_adds Outside k j t st = quiet_adds st
 
 column_adds : (x : PathToken) (b : Bool) (s : Spine) (k j : ℕ) (t : Token) (st : State) → Adds st (column_by x b s k j t st) []
 column_adds Split b s k j t st = quiet_adds st

@@ -17,7 +17,9 @@ use Rattle.lines.specs.Tokens.{tokens_of, is_star}
 use Rattle.lines.specs.declared.Kind.{Kind}
 use Rattle.lines.specs.declared.Kind.TheVariants.{Empty, Reference, Comment, Star, Bar, Data}
 use Rattle.paths.specs.Record.{Rec, star, plain, tokens}
-use Rattle.paths.specs.Row.{Spine, line, branch, outside, part_of, spine_at}
+use Rattle.paths.specs.Row.{part_of, spine_at}
+use Rattle.paths.specs.declared.Spine.{Spine}
+use Rattle.paths.specs.declared.Spine.TheVariants.{Line, Branch, Outside}
 use Rattle.paths.specs.Demand.{At}
 use Rattle.paths.specs.Text.{reading, read_record, take_record, read_to}
 use Rattle.paths.specs.Token.{path_token}
@@ -131,12 +133,12 @@ part_bound h recs n j p = go (trace recs n j)
     go (some k) e = kern k (get_or h k false) refl e
 
 module _ (partAt-text : ℕ → Option ℕ) (m : ℕ) (bound : (j p : ℕ) → partAt-text j ≡ some p → p < m) where
-  column_is : (i : ℕ) (s : Spine) → part_of s ≡ partAt-text i → ((p : ℕ) → s ≢ branch p) → Column partAt-text m i s
-  column_is i (line p v) e b = (sym e, bound i p (sym e))
-  column_is i (branch p) e b = b p refl
-  column_is i outside e b = sym e
+  column_is : (i : ℕ) (s : Spine) → part_of s ≡ partAt-text i → ((p : ℕ) → s ≢ Branch p) → Column partAt-text m i s
+  column_is i (Line p v) e b = (sym e, bound i p (sym e))
+  column_is i (Branch p) e b = b p refl
+  column_is i Outside e b = sym e
 
-  columns_are : (i : ℕ) (row : List Spine) → ((j : ℕ) → part_of (spine_at row j) ≡ partAt-text (i + j)) → ((j p : ℕ) → spine_at row j ≢ branch p) → Columns partAt-text m i row
+  columns_are : (i : ℕ) (row : List Spine) → ((j : ℕ) → part_of (spine_at row j) ≡ partAt-text (i + j)) → ((j p : ℕ) → spine_at row j ≢ Branch p) → Columns partAt-text m i row
   columns_are i [] e b = tt
   columns_are i (s ∷ row) e b =
       let z : i + 0 ≡ i = omega arith in
@@ -150,8 +152,8 @@ row_columns h recs n row at =
 pub kern_columns_lem : (partAt-text : ℕ → Option ℕ) (m i : ℕ) (row : List Spine) → Columns partAt-text m i row → kern_columns partAt-text i row ≡ map is_kern_spine row
 unfolding kern_columns
 kern_columns_lem f m i [] c = refl
-kern_columns_lem f m i (line p v ∷ row) ((e, l), cs) = rw e (ap (λ (ks : List Bool). true ∷ ks) (kern_columns_lem f m (suc i) row cs))
-kern_columns_lem f m i (branch p ∷ row) (c, cs) = absurd c
-kern_columns_lem f m i (outside ∷ row) (e, cs) = rw e (ap (λ (ks : List Bool). false ∷ ks) (kern_columns_lem f m (suc i) row cs))
+kern_columns_lem f m i (Line p v ∷ row) ((e, l), cs) = rw e (ap (λ (ks : List Bool). true ∷ ks) (kern_columns_lem f m (suc i) row cs))
+kern_columns_lem f m i (Branch p ∷ row) (c, cs) = absurd c
+kern_columns_lem f m i (Outside ∷ row) (e, cs) = rw e (ap (λ (ks : List Bool). false ∷ ks) (kern_columns_lem f m (suc i) row cs))
 
 -- ---- the tokens of a line, with their places and without

@@ -11,7 +11,8 @@ use Rattle.token.specs.Account.{is_note, account_length}
 use Rattle.token.specs.Outcome.{note_pitches}
 use Rattle.token.specs.declared.pitches.Tone.{Tone}
 use Rattle.peers.specs.Peers.{is_bare, peer_reciprocal}
-use Rattle.paths.specs.Row.{Spine, line, branch, outside}
+use Rattle.paths.specs.declared.Spine.{Spine}
+use Rattle.paths.specs.declared.Spine.TheVariants.{Line, Branch, Outside}
 use Rattle.paths.specs.Record.{Rec}
 use Rattle.paths.specs.Trace.{part}
 use Rattle.sheet.specs.declared.Pitch.{Pitch}
@@ -33,9 +34,9 @@ pitch_of t = record { step = t.step; octave = t.octave; alter = twos_complement 
 
 -- the voice of a column: that of its line in the row
 abbrev pub voice_of : Spine → ℕ
-voice_of (line p v) = v
-voice_of (branch p) = 0
-voice_of outside = 0
+voice_of (Line p v) = v
+voice_of (Branch p) = 0
+voice_of Outside = 0
 
 abbrev pub is_kern_column : Option ℕ → Bool
 is_kern_column none = false

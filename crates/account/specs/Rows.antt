@@ -5,7 +5,7 @@ use Rattle.lines.specs.Tokens.{tokens_of, is_kern}
 use Rattle.lines.specs.declared.Kind.{Kind}
 use Rattle.lines.specs.declared.Kind.TheVariants.{Empty, Reference, Comment, Star, Bar, Data}
 use Rattle.paths.specs.Record.{Rec, plain}
-use Rattle.paths.specs.Row.{Spine}
+use Rattle.paths.specs.declared.Spine.{Spine}
 use Rattle.paths.specs.Text.{header_row}
 use Rattle.paths.specs.Token.{path_token}
 use Rattle.paths.specs.Trace.{width_in}

@@ -13,7 +13,8 @@ use Rattle.slices.proofs.SplitLaws.{first_piece, no_piece, all_pieces}
 use Rattle.lines.specs.Lines.{piece_end}
 use Rattle.lines.specs.Tokens.{tokens_of}
 use Rattle.lines.proofs.PieceLaws.{Piece, piece_at_lem}
-use Rattle.paths.specs.Row.{Spine, line, branch}
+use Rattle.paths.specs.declared.Spine.{Spine}
+use Rattle.paths.specs.declared.Spine.TheVariants.{Line, Branch}
 use Rattle.repair.specs.Repair.{first_of}
 use Rattle.spines.specs.Cells.{spine_of, row_of}
 use Rattle.spines.proofs.CellLaws.{cell_outside, row_drop, row_none, row_length}
@@ -74,7 +75,7 @@ kern_high : (c : ℕ) → 8 ≤ c → is_kern_spine (spine_of c) ≡ true
 unfolding spine_of
 kern_high c h = rw (ne_eqb (c / 8) 0 (λ e. omega arith)) (go (ltb (c % 8) 4))
   where
-    go : (b : Bool) → is_kern_spine (cond b (line (c / 8 - 1) (c % 8)) (branch (c / 8 - 1))) ≡ true
+    go : (b : Bool) → is_kern_spine (cond b (Line (c / 8 - 1) (c % 8)) (Branch (c / 8 - 1))) ≡ true
     go true = refl
     go false = refl
 

@@ -9,7 +9,8 @@ use Rattle.lines.specs.Tokens.{tokens_of, is_null}
 use Rattle.duration.specs.Duration.{duration_of}
 use Rattle.duration.specs.declared.Value.{Value}
 use Rattle.std.specs.Prelude.{Option}
-use Rattle.paths.specs.Row.{Spine, line, branch, outside}
+use Rattle.paths.specs.declared.Spine.{Spine}
+use Rattle.paths.specs.declared.Spine.TheVariants.{Line, Branch, Outside}
 use Rattle.spines.specs.Cells.{spine_of, row_of}
 use Rattle.spines.proofs.CellLaws.{cell_at, cell_outside, cell_line, cell_branch}
 use Rattle.reading.specs.State.{State, Step, goes}
@@ -30,16 +31,16 @@ use Rattle.notes.proofs.TokenLaws.{quiet_step}
 spine_null : (s : Spine) (all : List (List ℕ)) (kern : List Bool) (k i : ℕ) (t : Token) (st : State) → is_null t.bytes ≡ true
     → notes.read_spine s all kern k i t st ≡ goes (quiet st)
 unfolding notes.read_token_at
-spine_null (line p v) all kern k i t st e = rw e
-spine_null (branch p) all kern k i t st e = refl
-spine_null outside all kern k i t st e = refl
+spine_null (Line p v) all kern k i t st e = rw e
+spine_null (Branch p) all kern k i t st e = refl
+spine_null Outside all kern k i t st e = refl
 
 -- the spot of a column in a kern line
 abbrev pub spot_of : List ℕ → Column → Spot
 spot_of row c = spot_at (get_or row c.index 0) c.index c.line (c.offset + c.from)
 
 module _ (text row : List ℕ) (c : Column) where
-  is_line : 8 ≤ get_or row c.index 0 → get_or row c.index 0 % 8 ≤ 3 → spine_of (get_or row c.index 0) ≡ line (get_or row c.index 0 / 8 - 1) (get_or row c.index 0 % 8)
+  is_line : 8 ≤ get_or row c.index 0 → get_or row c.index 0 % 8 ≤ 3 → spine_of (get_or row c.index 0) ≡ Line (get_or row c.index 0 / 8 - 1) (get_or row c.index 0 % 8)
   is_line h l =
       let q : get_or row c.index 0 / 8 ≡ (get_or row c.index 0 / 8 - 1) + 1 = omega arith in
       cell_line (get_or row c.index 0) (get_or row c.index 0 / 8 - 1) q (omega arith)

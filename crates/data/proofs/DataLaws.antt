@@ -14,7 +14,7 @@ use Rattle.state.specs.Counts.{Same}
 use Rattle.state.proofs.CountLaws.{same, same_same}
 use Rattle.lines.specs.Tokens.{tokens_of}
 use Rattle.lines.proofs.PieceLaws.{Piece}
-use Rattle.paths.specs.Row.{Spine}
+use Rattle.paths.specs.declared.Spine.{Spine}
 use Rattle.spines.specs.Cells.{spine_of, row_of}
 use Rattle.spines.proofs.CellLaws.{row_drop, row_none}
 use Rattle.reading.specs.State.{State, Step, refused, goes, ends}

@@ -14,7 +14,7 @@ use Rattle.lines.specs.declared.Kind.TheVariants.{Empty, Reference, Comment, Sta
 use Rattle.repair.specs.Repair.{repaired, Repaired, repaired_of, repair_notice}
 use Rattle.repair.specs.declared.Repair.{Repair}
 use Rattle.repair.specs.declared.Unrepaired.TheVariants.{Uneven, Mixed}
-use Rattle.paths.specs.Row.{Spine}
+use Rattle.paths.specs.declared.Spine.{Spine}
 use Rattle.sheet.specs.Record.{span_of}
 use Rattle.reading.specs.State.{State}
 use Rattle.reading.specs.Notices.{Token, placed, quiet, notify}

@@ -13,7 +13,8 @@ use Rattle.interpretation.specs.Unsupported.{notice_number, Says}
 use Rattle.paths.specs.declared.PathToken.{PathToken}
 use Rattle.paths.specs.declared.PathToken.TheVariants.{Split, Join, Exchange, End, Add, Other}
 use Rattle.paths.specs.Token.{path_token}
-use Rattle.paths.specs.Row.{Spine, line, branch, outside}
+use Rattle.paths.specs.declared.Spine.{Spine}
+use Rattle.paths.specs.declared.Spine.TheVariants.{Line, Branch, Outside}
 use Rattle.paths.specs.Voices.{Outcome, next, mixed, voiceless, wide, step_row}
 use Rattle.reading.specs.State.{State, Result, part_at, with_part}
 use Rattle.reading.specs.declared.Part.{Part}
@@ -41,9 +42,9 @@ heeded_holds (Ok what) k j t p st h = applied_holds what t p st h
 heeded_holds (Err why) k j t p st h = notify_holds (notice_number why) k j (span_of_token t) st h
 
 interpret_holds : {b n : ℕ} (s : Spine) (k j : ℕ) (t : Token) (st : State) → Holds b n st → After b n (interpret s k j t st)
-interpret_holds (line p v) k j t st h = heeded_holds (interpretation_of t.bytes (part_at st p).noted) k j t p st h
-interpret_holds (branch p) k j t st h = quiet_holds st h
-interpret_holds outside k j t st h = quiet_holds st h
+interpret_holds (Line p v) k j t st h = heeded_holds (interpretation_of t.bytes (part_at st p).noted) k j t p st h
+interpret_holds (Branch p) k j t st h = quiet_holds st h
+interpret_holds Outside k j t st h = quiet_holds st h
 
 column_holds : {b n : ℕ} (x : PathToken) (two : Bool) (s : Spine) (k j : ℕ) (t : Token) (st : State) → Holds b n st → After b n (column_by x two s k j t st)
 column_holds Split two s k j t st h = quiet_holds st h

@@ -25,7 +25,7 @@ use Rattle.repair.specs.declared.Repair.TheVariants.{Whole, Cut, Stars, Bars}
 use Rattle.repair.specs.declared.Unrepaired.TheVariants.{Uneven, Mixed}
 use Rattle.repair.proofs.EachLaws.{bar_first}
 use Rattle.repair.proofs.WidthLaws.{Applies, applies}
-use Rattle.paths.specs.Row.{Spine}
+use Rattle.paths.specs.declared.Spine.{Spine}
 use Rattle.reading.specs.State.{State}
 use Rattle.reading.specs.Notices.{Token, placed, notify}
 use Rattle.reading.specs.Notes.{behind}

@@ -18,7 +18,8 @@ use Rattle.token.specs.declared.pitches.Tone.{Tone}
 use Rattle.token.specs.declared.outcome.Note.{Note}
 use Rattle.std.specs.Prelude.{Some, None, Ok, Err}
 use Rattle.token.proofs.AccountLaws.{Listed, lists_agree}
-use Rattle.paths.specs.Row.{Spine, line, branch, outside}
+use Rattle.paths.specs.declared.Spine.{Spine}
+use Rattle.paths.specs.declared.Spine.TheVariants.{Line, Branch, Outside}
 use Rattle.reading.specs.State.{State, Result, Step, refused, goes, ends, part_at, with_part, with_notes}
 use Rattle.reading.specs.Notices.{Token, span_of_token, quiet, notify}
 use Rattle.reading.specs.Bars.{is_kern_spine}
@@ -176,9 +177,9 @@ fine_token {m} all kern p v k i t st hp hv hk hi w f g =
 
 fine_spine : {m : ℕ} (s : Spine) (all : List (List ℕ)) (kern : List Bool) (k i : ℕ) (t : Token) (st : State) → SpineFits s → U32 k → i < 256
     → m < 134217728 → TokenFits t → Good m st → FineStep m (read_spine s all kern k i t st)
-fine_spine (line p v) all kern k i t st h hk hi w f g = fine_token all kern p v k i t st h.0 h.1 hk hi w f g
-fine_spine (branch p) all kern k i t st h hk hi w f g = going (fine_quiet g)
-fine_spine outside all kern k i t st h hk hi w f g = going (fine_quiet g)
+fine_spine (Line p v) all kern k i t st h hk hi w f g = fine_token all kern p v k i t st h.0 h.1 hk hi w f g
+fine_spine (Branch p) all kern k i t st h hk hi w f g = going (fine_quiet g)
+fine_spine Outside all kern k i t st h hk hi w f g = going (fine_quiet g)
 
 fine_tokens : {m : ℕ} (all : List (List ℕ)) (kern : List Bool) (k i : ℕ) (row : List Spine) (ts : List Token) (st : State) → U32 k
     → i + length row ≤ 256 → m < 134217728 → All SpineFits row → All TokenFits ts → Good m st → FineStep m (read_tokens all kern k i row ts st)

@@ -13,15 +13,17 @@ use Rattle.paths.specs.declared.PathToken.{PathToken}
 use Rattle.paths.specs.declared.PathToken.TheVariants.{Split, Join, Exchange, End, Add, Other}
 use Rattle.paths.specs.Token.{is_exchange, is_join}
 use Rattle.paths.specs.Joins.{mixed_run}
-use Rattle.paths.specs.Row.{Spine, line, branch, outside, branch_from, part_at, advance, next_row}
+use Rattle.paths.specs.Row.{branch_from, part_at, advance, next_row}
+use Rattle.paths.specs.declared.Spine.{Spine}
+use Rattle.paths.specs.declared.Spine.TheVariants.{Line, Branch, Outside}
 use Rattle.paths.specs.Voices.{holds, lowest, with_voice, Outcome, next, mixed, voiceless, wide, ahead, settle, give_voices, voice_row, narrow, step_row}
 use Rattle.paths.proofs.StepLaws.{unmixed_holds}
 use Rattle.paths.specs.Text.{header_from}
 
 abbrev pub SpineFits : Spine → Type 0
-SpineFits (line p v) = U8 p × U8 v
-SpineFits (branch p) = U8 p
-SpineFits outside = Unit {0}
+SpineFits (Line p v) = U8 p × U8 v
+SpineFits (Branch p) = U8 p
+SpineFits Outside = Unit {0}
 
 -- ---- what a row's spines have, the next row's have
 
@@ -55,9 +57,9 @@ module _ {A : Type 0} (fork : A → A) (fresh : A) (P : A → Type 0) (forked : 
 
 branch_fits : (s : Spine) → SpineFits s → SpineFits (branch_from s)
 unfolding branch_from
-branch_fits (line p v) h = h.0
-branch_fits (branch p) h = h
-branch_fits outside h = tt
+branch_fits (Line p v) h = h.0
+branch_fits (Branch p) h = h
+branch_fits Outside h = tt
 
 -- ---- voices
 
@@ -90,14 +92,14 @@ ahead_fits s (wide n) h k = tt
 
 settle_fits : (p : ℕ) (rest : ℕ → Outcome) (v : Option ℕ) → U8 p → VoiceFits v → ((v : ℕ) → RowFits (rest v)) → RowFits (settle p rest v)
 settle_fits p rest none h k r = tt
-settle_fits p rest (some v) h k r = ahead_fits (line p v) (rest v) (h, k) (r v)
+settle_fits p rest (some v) h k r = ahead_fits (Line p v) (rest v) (h, k) (r v)
 
 voices_fit : (held : ℕ → ℕ → Bool) (row : List Spine) → All SpineFits row → RowFits (give_voices held row)
 unfolding give_voices
 voices_fit held [] h = tt
-voices_fit held (line p v ∷ row) h = ahead_fits (line p v) (give_voices held row) h.0 (voices_fit held row h.1)
-voices_fit held (outside ∷ row) h = ahead_fits outside (give_voices held row) tt (voices_fit held row h.1)
-voices_fit held (branch p ∷ row) h =
+voices_fit held (Line p v ∷ row) h = ahead_fits (Line p v) (give_voices held row) h.0 (voices_fit held row h.1)
+voices_fit held (Outside ∷ row) h = ahead_fits Outside (give_voices held row) tt (voices_fit held row h.1)
+voices_fit held (Branch p ∷ row) h =
     settle_fits p (λ v. give_voices (with_voice p v held) row) (lowest (held p)) h.0 (lowest_fits (held p))
     (λ v. voices_fit (with_voice p v held) row h.1)
 
@@ -127,7 +129,7 @@ unfolding step_row voice_row
 step_fits row ts h =
     unmixed_holds NextFits (mixed_run (part_at row) ts) (narrow (voice_row (next_row ts row))) (λ (c : ℕ). tt)
     (narrow_fits (give_voices (holds (next_row ts row)) (next_row ts row))
-    (voices_fit (holds (next_row ts row)) (next_row ts row) (advanced branch_from outside SpineFits branch_fits tt ts row h)))
+    (voices_fit (holds (next_row ts row)) (next_row ts row) (advanced branch_from Outside SpineFits branch_fits tt ts row h)))
 
 -- ---- the header
 

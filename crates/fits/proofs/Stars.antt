@@ -25,7 +25,8 @@ use Rattle.interpretation.proofs.Ranges.{Ranged, ranged}
 use Rattle.paths.specs.declared.PathToken.{PathToken}
 use Rattle.paths.specs.declared.PathToken.TheVariants.{Split, Join, Exchange, End, Add, Other}
 use Rattle.paths.specs.Token.{path_token}
-use Rattle.paths.specs.Row.{Spine, line, branch, outside}
+use Rattle.paths.specs.declared.Spine.{Spine}
+use Rattle.paths.specs.declared.Spine.TheVariants.{Line, Branch, Outside}
 use Rattle.paths.specs.Voices.{Outcome, next, mixed, voiceless, wide, step_row}
 use Rattle.reading.specs.State.{State, Result, part_at}
 use Rattle.reading.specs.declared.Part.{Part}
@@ -212,11 +213,11 @@ module _ {n : ℕ} (k j : ℕ) (t : Token) (p : ℕ) (part : Part) (st : State) 
 
 module _ {n : ℕ} (k j : ℕ) (t : Token) (st : State) (l : U32 k) (c : U16 j) (f : TokenFits t) (g : Good n st) where
   fine_interpret : (s : Spine) → SpineFits s → Fine n (interpret s k j t st)
-  fine_interpret (line p v) h =
+  fine_interpret (Line p v) h =
       fine_heeded k j t p (part_at st p) st l c f (part_good p h.0 g) g (interpretation_of t.bytes (part_at st p).noted)
       (ranged t.bytes (part_at st p).noted)
-  fine_interpret (branch p) h = fine_quiet g
-  fine_interpret outside h = fine_quiet g
+  fine_interpret (Branch p) h = fine_quiet g
+  fine_interpret Outside h = fine_quiet g
 
   fine_column : (q : PathToken) (b : Bool) (s : Spine) → SpineFits s → Fine n (column_by q b s k j t st)
   fine_column Split b s h = fine_quiet g

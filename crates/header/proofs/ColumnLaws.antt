@@ -13,13 +13,14 @@ use Rattle.slices.proofs.SplitLaws.{no_piece, all_pieces}
 use Rattle.lines.specs.Lines.{piece_end}
 use Rattle.lines.specs.Tokens.{tokens_of, is_kern, is_exclusive}
 use Rattle.lines.proofs.PieceLaws.{piece_at_lem}
-use Rattle.paths.specs.Row.{Spine, line, outside}
+use Rattle.paths.specs.declared.Spine.{Spine}
+use Rattle.paths.specs.declared.Spine.TheVariants.{Line, Outside}
 use Rattle.paths.specs.Text.{header_from, header_row}
 use Rattle.repair.specs.Repair.{each}
 use Rattle.spines.specs.Cells.{spine_of, row_of}
 use Rattle.spines.specs.Table.{active_at, cell_of, cells_of}
 use Rattle.std.proofs.Common.{Option, Some, None}
-use Rattle.spines.specs.declared.Line.{Line}
+use Rattle.spines.specs.declared.Line.{Line as Active-line}
 use Rattle.spines.proofs.CellLaws.{cell_outside, cell_line, row_append}
 use Rattle.spines.proofs.TableLaws.{cells_length, cells_set}
 use Rattle.reading.specs.Header.{fresh_parts, any_kern}
@@ -33,7 +34,7 @@ column_kern t p k =
     let c = (p + 1) * 8 + 0 in
     let q : c / 8 ≡ p + 1 = omega arith in
     let v : c % 8 ≡ 0 = omega arith in
-    rw k (ap (λ (x : Spine). x ∷ []) (cell_line c p q (omega arith) ∙ ap (line p) v), refl)
+    rw k (ap (λ (x : Spine). x ∷ []) (cell_line c p q (omega arith) ∙ ap (Line p) v), refl)
 
 pub column_other : (t : List ℕ) (p : ℕ) → is_kern t ≡ false
     → (spine_of (cell_of None) ∷ [] ≡ header_from p (is_kern t ∷ [])) × (p ≡ p + length (fresh_parts p (is_kern t ∷ [])))
@@ -43,8 +44,8 @@ column_other t p k = rw k (ap (λ (x : Spine). x ∷ []) (cell_outside 0 refl), 
 -- a column in front of others
 header_more : (b : Bool) (p : ℕ) (ks : List Bool) → header_from p (b ∷ ks) ≡ header_from p (b ∷ []) ++ header_from (p + length (fresh_parts p (b ∷ []))) ks
 unfolding header_from fresh_parts
-header_more true p ks = ap (λ (n : ℕ). line p 0 ∷ header_from n ks) (sym (add-one p))
-header_more false p ks = ap (λ (n : ℕ). outside ∷ header_from n ks) (sym (add-zero p))
+header_more true p ks = ap (λ (n : ℕ). Line p 0 ∷ header_from n ks) (sym (add-one p))
+header_more false p ks = ap (λ (n : ℕ). Outside ∷ header_from n ks) (sym (add-zero p))
 
 fresh_more : (b : Bool) (p : ℕ) (ks : List Bool)
     → length (fresh_parts p (b ∷ ks)) ≡ length (fresh_parts p (b ∷ [])) + length (fresh_parts (p + length (fresh_parts p (b ∷ []))) ks)
@@ -58,14 +59,14 @@ fresh_one true p = omega arith
 fresh_one false p = omega arith
 
 -- ---- the table: i spines are written, with p parts
-pub record Filling (s : List ℕ) (spines : List (Option Line)) (from i p : ℕ) : Type 0 where
+pub record Filling (s : List ℕ) (spines : List (Option Active-line)) (from i p : ℕ) : Type 0 where
   pub kept : length spines ≡ 256
   pub low : p ≤ i
   pub count : i + length (pieces 9 from s) ≡ length (tokens_of s)
   pub same : row_of (take i (cells_of spines)) ++ header_from p (map is_kern (pieces 9 from s)) ≡ header_row (map is_kern (tokens_of s))
   pub fresh : p + length (fresh_parts p (map is_kern (pieces 9 from s))) ≡ length (fresh_parts 0 (map is_kern (tokens_of s)))
 
-pub filling_first : {s : List ℕ} {spines : List (Option Line)} → length spines ≡ 256 → Filling s spines 0 0 0
+pub filling_first : {s : List ℕ} {spines : List (Option Active-line)} → length spines ≡ 256 → Filling s spines 0 0 0
 unfolding row_of
 filling_first {s} k = record {
   kept = k;
@@ -75,14 +76,14 @@ filling_first {s} k = record {
   fresh = omega (arith, ap (λ (l : List (List ℕ)). length (fresh_parts 0 (map is_kern l))) (all_pieces 9 s));
 }
 
-module _ {s : List ℕ} {spines : List (Option Line)} {from i p e : ℕ} (inv : Filling s spines from i p) (few : length (tokens_of s) ≤ 256) (h : from ≤ length s) (at : e ≡ piece_end 9 s from) where
+module _ {s : List ℕ} {spines : List (Option Active-line)} {from i p e : ℕ} (inv : Filling s spines from i p) (few : length (tokens_of s) ≤ 256) (h : from ≤ length s) (at : e ≡ piece_end 9 s from) where
   here_piece : pieces 9 from s ≡ take (e - from) (drop from s) ∷ pieces 9 (e + 1) s
   here_piece = (piece_at_lem h at).here
 
   pub filling_room : i < 256
   filling_room = omega (arith, inv.count, ap length here_piece)
 
-  module _ (a : Option Line) {q : ℕ} (col : (spine_of (cell_of a) ∷ [] ≡ header_from p (is_kern (take (e - from) (drop from s)) ∷ [])) × (q ≡ p + length (fresh_parts p (is_kern (take (e - from) (drop from s)) ∷ [])))) where
+  module _ (a : Option Active-line) {q : ℕ} (col : (spine_of (cell_of a) ∷ [] ≡ header_from p (is_kern (take (e - from) (drop from s)) ∷ [])) × (q ≡ p + length (fresh_parts p (is_kern (take (e - from) (drop from s)) ∷ [])))) where
     pub filling_turn : Filling s (set spines i a) (e + 1) (i + 1) q
     unfolding row_of
     filling_turn =
@@ -108,7 +109,7 @@ module _ {s : List ℕ} {spines : List (Option Line)} {from i p e : ℕ} (inv : 
           fresh = omega (arith, inv.fresh, f, fresh_more b p ks, col.1, ap (λ (n : ℕ). length (fresh_parts n ks)) col.1);
         }
 
-pub filling_past : {s : List ℕ} {spines : List (Option Line)} {from i p : ℕ} → Filling s spines from i p → length s < from → HeaderTable (tokens_of s) spines i p
+pub filling_past : {s : List ℕ} {spines : List (Option Active-line)} {from i p : ℕ} → Filling s spines from i p → length s < from → HeaderTable (tokens_of s) spines i p
 unfolding header_from fresh_parts
 filling_past {s} {spines} {from} {i} {p} inv h =
     let none : pieces 9 from s ≡ [] = no_piece 9 from s h in
@@ -123,19 +124,19 @@ filling_past {s} {spines} {from} {i} {p} inv h =
     }
 
 -- ---- the row: i cells are written
-cells_at : (l : List (Option Line)) (i : ℕ) → get_or (cells_of l) i 0 ≡ cell_of (active_at l i)
+cells_at : (l : List (Option Active-line)) (i : ℕ) → get_or (cells_of l) i 0 ≡ cell_of (active_at l i)
 unfolding cells_of cell_of
 cells_at l i = get_or-map cell_of l i None
 
-pub record Laying (table : List (Option Line)) (n : ℕ) (row : List ℕ) (i : ℕ) : Type 0 where
+pub record Laying (table : List (Option Active-line)) (n : ℕ) (row : List ℕ) (i : ℕ) : Type 0 where
   pub kept : length row ≡ 512
   pub high : i ≤ n
   pub same : take i row ≡ take i (cells_of table)
 
-pub laying_first : {table : List (Option Line)} {n : ℕ} {row : List ℕ} → length row ≡ 512 → Laying table n row 0
+pub laying_first : {table : List (Option Active-line)} {n : ℕ} {row : List ℕ} → length row ≡ 512 → Laying table n row 0
 laying_first k = record { kept = k; high = omega arith; same = refl }
 
-pub laying_turn : {table : List (Option Line)} {n : ℕ} {row : List ℕ} {i c : ℕ} → Laying table n row i → length table ≡ 256 → n ≤ 256 → i < n
+pub laying_turn : {table : List (Option Active-line)} {n : ℕ} {row : List ℕ} {i c : ℕ} → Laying table n row i → length table ≡ 256 → n ≤ 256 → i < n
     → c ≡ cell_of (active_at table i) → Laying table n (set row i c) (i + 1)
 laying_turn {table} {n} {row} {i} {c} inv l few h e = record {
   kept = length-set row i c ∙ inv.kept;
@@ -147,13 +148,13 @@ laying_turn {table} {n} {row} {i} {c} inv l few h e = record {
       ∙ sym (ap (λ (k : ℕ). take k (cells_of table)) (add-one i) ∙ take-suc (cells_of table) i 0 (omega (arith, cells_length table)));
 }
 
-pub laying_past : {table : List (Option Line)} {n : ℕ} {row : List ℕ} {i : ℕ} → Laying table n row i → n ≤ i → take n row ≡ take n (cells_of table)
+pub laying_past : {table : List (Option Active-line)} {n : ℕ} {row : List ℕ} {i : ℕ} → Laying table n row i → n ≤ i → take n row ≡ take n (cells_of table)
 laying_past {table} {n} {row} {i} inv h =
     let z : n ≡ i = omega (arith, inv.high) in
     ap (λ (k : ℕ). take k row) z ∙ inv.same ∙ ap (λ (k : ℕ). take k (cells_of table)) (sym z)
 
 -- the first row, of the table's cells
-pub row_laid : (s row : List ℕ) {spines : List (Option Line)} {n p : ℕ} → length (tokens_of s) ≤ 256 → HeaderTable (tokens_of s) spines n p → take n row ≡ take n (cells_of spines)
+pub row_laid : (s row : List ℕ) {spines : List (Option Active-line)} {n p : ℕ} → length (tokens_of s) ≤ 256 → HeaderTable (tokens_of s) spines n p → take n row ≡ take n (cells_of spines)
     → (row_of (take (length (tokens_of s)) row) ≡ header_row (map is_kern (tokens_of s))) × ((p ≡ length (fresh_parts 0 (map is_kern (tokens_of s)))) × (p ≤ 256))
 row_laid s row {spines} {n} {p} few t e =
     (ap (λ (k : ℕ). row_of (take k row)) (sym t.columns) ∙ ap row_of e ∙ t.row, (t.parts, omega (arith, t.few, t.columns)))

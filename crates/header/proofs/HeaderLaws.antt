@@ -14,7 +14,7 @@ use Rattle.reference.specs.declared.Reference.{Reference}
 use Rattle.reference.specs.declared.Key.{Key}
 use Rattle.reference.specs.declared.Key.TheVariants.{Title, Composer, Lyricist, Other}
 use Rattle.reference.proofs.ReferenceLaws.{key_inside, value_inside}
-use Rattle.paths.specs.Row.{Spine}
+use Rattle.paths.specs.declared.Spine.{Spine}
 use Rattle.paths.specs.Text.{header_row}
 use Rattle.repair.specs.Repair.{each}
 use Rattle.spines.specs.Cells.{row_of}

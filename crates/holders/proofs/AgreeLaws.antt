@@ -13,7 +13,9 @@ use Rattle.slices.proofs.TestLaws.{clash}
 use Rattle.paths.specs.declared.PathToken.{PathToken}
 use Rattle.paths.specs.Demand.{At}
 use Rattle.paths.specs.Record.{Rec, star}
-use Rattle.paths.specs.Row.{Spine, line, branch, outside, branch_from, part_of, spine_at, part_at}
+use Rattle.paths.specs.Row.{branch_from, part_of, spine_at, part_at}
+use Rattle.paths.specs.declared.Spine.{Spine}
+use Rattle.paths.specs.declared.Spine.TheVariants.{Line, Branch, Outside}
 use Rattle.paths.specs.Text.{read_to}
 use Rattle.paths.specs.Token.{is_join}
 use Rattle.paths.specs.Trace.{Origin, column_of, origin, origin_in, width, count, is_part, kerns_before, header_part, trace, part, lines}
@@ -97,17 +99,17 @@ module _ (q c : ℕ) where
   times_step : (v column : ℕ) (s : Spine) (y : Bool) (rest : List Holder) (more : List Spine) → times v rest ≡ total (at q v) more
       → times v (cond (is_of q s && y) (entry q c column (voice_of s) ∷ rest) rest) ≡ total (at q v) (cond y (s ∷ more) more)
   unfolding total
-  times_step v column (line p w) y rest more e = go (eqb q p) y refl
+  times_step v column (Line p w) y rest more e = go (eqb q p) y refl
     where
-      go : (a y : Bool) → eqb q p ≡ a → times v (cond (a && y) (entry q c column w ∷ rest) rest) ≡ total (at q v) (cond y (line p w ∷ more) more)
+      go : (a y : Bool) → eqb q p ≡ a → times v (cond (a && y) (entry q c column w ∷ rest) rest) ≡ total (at q v) (cond y (Line p w ∷ more) more)
       go true true a = omega (arith, times_cons v (entry q c column w) rest, same_yes q p (eqb-true q p a), same_le v w)
       go true false a = e
       go false true a = omega (arith, same_no q p (eqb-false q p a))
       go false false a = e
-  times_step v column (branch p) true rest more e = omega arith
-  times_step v column (branch p) false rest more e = e
-  times_step v column outside true rest more e = omega arith
-  times_step v column outside false rest more e = e
+  times_step v column (Branch p) true rest more e = omega arith
+  times_step v column (Branch p) false rest more e = e
+  times_step v column Outside true rest more e = omega arith
+  times_step v column Outside false rest more e = e
 
   times_lines : (v i : ℕ) (f : Bool) (ts : List PathToken) (row : List Spine) → times v (line_list i f ts row) ≡ total (at q v) (carried f ts row)
   unfolding line_list carried times total
@@ -118,17 +120,17 @@ module _ (q c : ℕ) where
   length_step : (x : Holder) (s : Spine) (y : Bool) (rest : List Holder) (more : List Spine) → length rest ≡ total (of_line q) more
       → length (cond (is_of q s && y) (x ∷ rest) rest) ≡ total (of_line q) (cond y (s ∷ more) more)
   unfolding total
-  length_step x (line p w) y rest more e = go (eqb q p) y refl
+  length_step x (Line p w) y rest more e = go (eqb q p) y refl
     where
-      go : (a y : Bool) → eqb q p ≡ a → length (cond (a && y) (x ∷ rest) rest) ≡ total (of_line q) (cond y (line p w ∷ more) more)
+      go : (a y : Bool) → eqb q p ≡ a → length (cond (a && y) (x ∷ rest) rest) ≡ total (of_line q) (cond y (Line p w ∷ more) more)
       go true true a = omega (arith, same_yes q p (eqb-true q p a))
       go true false a = e
       go false true a = omega (arith, same_no q p (eqb-false q p a))
       go false false a = e
-  length_step x (branch p) true rest more e = omega arith
-  length_step x (branch p) false rest more e = e
-  length_step x outside true rest more e = omega arith
-  length_step x outside false rest more e = e
+  length_step x (Branch p) true rest more e = omega arith
+  length_step x (Branch p) false rest more e = e
+  length_step x Outside true rest more e = omega arith
+  length_step x Outside false rest more e = e
 
   length_lines : (i : ℕ) (f : Bool) (ts : List PathToken) (row : List Spine) → length (line_list i f ts row) ≡ total (of_line q) (carried f ts row)
   unfolding line_list carried total
@@ -189,24 +191,24 @@ forks_length : (q i : ℕ) (ts : List PathToken) (row : List Spine) → total (o
 unfolding forks forked total branch_from
 forks_length q i [] row z = refl
 forks_length q i (t ∷ ts) [] z = refl
-forks_length q i (t ∷ ts) (line p v ∷ row) z = go (eqb q p) (is_split t) refl (forks_length q (suc i) ts row (omega arith))
+forks_length q i (t ∷ ts) (Line p v ∷ row) z = go (eqb q p) (is_split t) refl (forks_length q (suc i) ts row (omega arith))
   where
     go : (a y : Bool) → eqb q p ≡ a → length (forks q (suc i) ts row) ≡ total (of_part q) (map branch_from (forked ts row))
-        → length (cond (a && y) (i ∷ forks q (suc i) ts row) (forks q (suc i) ts row)) ≡ total (of_part q) (map branch_from (cond y (line p v ∷ forked ts row) (forked ts row)))
+        → length (cond (a && y) (i ∷ forks q (suc i) ts row) (forks q (suc i) ts row)) ≡ total (of_part q) (map branch_from (cond y (Line p v ∷ forked ts row) (forked ts row)))
     go true true a e = omega (arith, same_yes q p (eqb-true q p a))
     go true false a e = e
     go false true a e = omega (arith, same_no q p (eqb-false q p a))
     go false false a e = e
-forks_length q i (t ∷ ts) (branch p ∷ row) z = go (is_split t) (forks_length q (suc i) ts row (omega arith))
+forks_length q i (t ∷ ts) (Branch p ∷ row) z = go (is_split t) (forks_length q (suc i) ts row (omega arith))
   where
     go : (y : Bool) → length (forks q (suc i) ts row) ≡ total (of_part q) (map branch_from (forked ts row))
-        → length (forks q (suc i) ts row) ≡ total (of_part q) (map branch_from (cond y (branch p ∷ forked ts row) (forked ts row)))
+        → length (forks q (suc i) ts row) ≡ total (of_part q) (map branch_from (cond y (Branch p ∷ forked ts row) (forked ts row)))
     go true e = omega arith
     go false e = e
-forks_length q i (t ∷ ts) (outside ∷ row) z = go (is_split t) (forks_length q (suc i) ts row (omega arith))
+forks_length q i (t ∷ ts) (Outside ∷ row) z = go (is_split t) (forks_length q (suc i) ts row (omega arith))
   where
     go : (y : Bool) → length (forks q (suc i) ts row) ≡ total (of_part q) (map branch_from (forked ts row))
-        → length (forks q (suc i) ts row) ≡ total (of_part q) (map branch_from (cond y (outside ∷ forked ts row) (forked ts row)))
+        → length (forks q (suc i) ts row) ≡ total (of_part q) (map branch_from (cond y (Outside ∷ forked ts row) (forked ts row)))
     go true e = omega arith
     go false e = e
 
@@ -246,10 +248,10 @@ module _ (h : List Bool) (recs : ℕ → Rec) (n q : ℕ) (row : List Spine) (ts
   unfolding part_at
   is_of_lem j = ap (is_part q) (sym (held.parts j)) ∙ go (spine_at row j) (sound_voiced row held.sound j)
     where
-      go : (s : Spine) → ((p : ℕ) → s ≢ branch p) → is_part q (part_of s) ≡ is_of q s
-      go (line p v) b = refl
-      go (branch p) b = absurd (b p refl)
-      go outside b = refl
+      go : (s : Spine) → ((p : ℕ) → s ≢ Branch p) → is_part q (part_of s) ≡ is_of q s
+      go (Line p v) b = refl
+      go (Branch p) b = absurd (b p refl)
+      go Outside b = refl
 
   holder_is : (j v : ℕ) → is_of q (spine_at row j) ≡ true → holder h recs n q j v ≡ entry q column (j + 1) v
   holder_is j v o = ap (λ (c : ℕ). record { column = j + 1; voice = v; header = c }) (header_is h recs n q j (is_of_lem j ∙ o))

@@ -9,7 +9,9 @@ use lib.ListN.{length}
 use borrow.Author.Tests.{le-ltb, ne_eqb, ltb-true, ltb-false}
 use Rattle.paths.specs.declared.PathToken.{PathToken}
 use Rattle.paths.specs.declared.PathToken.TheVariants.{Split, Join, Exchange, End, Add, Other}
-use Rattle.paths.specs.Row.{Spine, line, branch, outside, branch_from, advance, next_row, spine_at}
+use Rattle.paths.specs.Row.{branch_from, advance, next_row, spine_at}
+use Rattle.paths.specs.declared.Spine.{Spine}
+use Rattle.paths.specs.declared.Spine.TheVariants.{Line, Branch, Outside}
 use Rattle.paths.specs.Token.{is_join}
 use Rattle.paths.specs.Trace.{Origin, from, branch_of, nowhere, origin, width, count}
 use Rattle.paths.proofs.Branches.{rivals_zero}
@@ -33,7 +35,7 @@ forked (t ∷ ts) [] = []
 forked (t ∷ ts) (s ∷ row) = cond (is_split t) (s ∷ forked ts row) (forked ts row)
 
 module _ (f : Spine → ℕ) where
-  module _ (fo : f outside ≡ 0) where
+  module _ (fo : f Outside ≡ 0) where
     pub carry_total : (ts : List PathToken) (row : List Spine) → total f (next_row ts row) ≡ total f (carried false ts row) + total f (map branch_from (forked ts row))
     unfolding total advance carried forked
     carry_total [] row = refl
@@ -81,20 +83,20 @@ carries_at f (t ∷ ts) (suc e) = carries_at (is_join t) ts e
 -- a row of lines each of a part of its own, from part i on
 unfoldable pub labels : ℕ → List PathToken → List Spine
 labels i [] = []
-labels i (t ∷ ts) = line i 0 ∷ labels (suc i) ts
+labels i (t ∷ ts) = Line i 0 ∷ labels (suc i) ts
 
 labels_length : (i : ℕ) (ts : List PathToken) → length ts ≡ length (labels i ts)
 unfolding labels
 labels_length i [] = refl
 labels_length i (t ∷ ts) = ap suc (labels_length (suc i) ts)
 
-labels_at : (i : ℕ) (ts : List PathToken) (k : ℕ) → k < length ts → spine_at (labels i ts) k ≡ line (i + k) 0
+labels_at : (i : ℕ) (ts : List PathToken) (k : ℕ) → k < length ts → spine_at (labels i ts) k ≡ Line (i + k) 0
 unfolding labels
 labels_at i [] k h = absurd (omega arith)
-labels_at i (t ∷ ts) zero h = ap (λ (n : ℕ). line n 0) (omega arith)
-labels_at i (t ∷ ts) (suc k) h = let z : suc i + k ≡ i + suc k = omega arith in labels_at (suc i) ts k (omega arith) ∙ ap (λ (n : ℕ). line n 0) z
+labels_at i (t ∷ ts) zero h = ap (λ (n : ℕ). Line n 0) (omega arith)
+labels_at i (t ∷ ts) (suc k) h = let z : suc i + k ≡ i + suc k = omega arith in labels_at (suc i) ts k (omega arith) ∙ ap (λ (n : ℕ). Line n 0) z
 
-labels_past : (i : ℕ) (ts : List PathToken) (k : ℕ) → length ts ≤ k → spine_at (labels i ts) k ≡ outside
+labels_past : (i : ℕ) (ts : List PathToken) (k : ℕ) → length ts ≤ k → spine_at (labels i ts) k ≡ Outside
 unfolding labels
 labels_past i [] k h = refl
 labels_past i (t ∷ ts) zero h = absurd (omega arith)
@@ -106,7 +108,7 @@ carried_low c i f [] h = refl
 carried_low c i f (t ∷ ts) h = go (carries t f) (carried_low c (suc i) (is_join t) ts (omega arith))
   where
     go : (x : Bool) → total (of_line c) (carried (is_join t) ts (labels (suc i) ts)) ≡ 0
-        → total (of_line c) (cond x (line i 0 ∷ carried (is_join t) ts (labels (suc i) ts)) (carried (is_join t) ts (labels (suc i) ts))) ≡ 0
+        → total (of_line c) (cond x (Line i 0 ∷ carried (is_join t) ts (labels (suc i) ts)) (carried (is_join t) ts (labels (suc i) ts))) ≡ 0
     go true later = omega (arith, same_no c i (λ e. omega arith))
     go false later = later
 
@@ -115,14 +117,14 @@ unfolding total carried labels
 carried_label i f [] e h = absurd (omega arith)
 carried_label i f (t ∷ ts) zero h = go (carries t f)
   where
-    go : (x : Bool) → total (of_line (i + 0)) (cond x (line i 0 ∷ carried (is_join t) ts (labels (suc i) ts)) (carried (is_join t) ts (labels (suc i) ts))) ≡ bit x
+    go : (x : Bool) → total (of_line (i + 0)) (cond x (Line i 0 ∷ carried (is_join t) ts (labels (suc i) ts)) (carried (is_join t) ts (labels (suc i) ts))) ≡ bit x
     go true = omega (arith, same_yes (i + 0) i (omega arith), carried_low (i + 0) (suc i) (is_join t) ts (omega arith))
     go false = carried_low (i + 0) (suc i) (is_join t) ts (omega arith)
 carried_label i f (t ∷ ts) (suc e) h =
     let z : i + suc e ≡ suc i + e = omega arith in go (carries t f) (rw z (carried_label (suc i) (is_join t) ts e (omega arith)))
   where
     go : (x : Bool) → total (of_line (i + suc e)) (carried (is_join t) ts (labels (suc i) ts)) ≡ bit (carries_at (is_join t) ts e)
-        → total (of_line (i + suc e)) (cond x (line i 0 ∷ carried (is_join t) ts (labels (suc i) ts)) (carried (is_join t) ts (labels (suc i) ts)))
+        → total (of_line (i + suc e)) (cond x (Line i 0 ∷ carried (is_join t) ts (labels (suc i) ts)) (carried (is_join t) ts (labels (suc i) ts)))
         ≡ bit (carries_at (is_join t) ts e)
     go true later = omega (arith, same_no (i + suc e) i (λ e. omega arith), later)
     go false later = later
@@ -131,19 +133,19 @@ carried_label i f (t ∷ ts) (suc e) h =
 forked_none : (c : ℕ) (row : List Spine) → total (of_line c) (map branch_from row) ≡ 0
 unfolding total branch_from
 forked_none c [] = refl
-forked_none c (line p v ∷ row) = omega (arith, forked_none c row)
-forked_none c (branch p ∷ row) = omega (arith, forked_none c row)
-forked_none c (outside ∷ row) = omega (arith, forked_none c row)
+forked_none c (Line p v ∷ row) = omega (arith, forked_none c row)
+forked_none c (Branch p ∷ row) = omega (arith, forked_none c row)
+forked_none c (Outside ∷ row) = omega (arith, forked_none c row)
 
 -- the lines of a part are those that have their voice before a branch in column 0
 rival_line : (c i : ℕ) (s : Spine) → is_rival c 0 i s ≡ is_of c s
-rival_line c i (line p v) = refl
-rival_line c i (branch p) = rw (le-ltb i 0 (omega arith)) (and-false (eqb c p))
+rival_line c i (Line p v) = refl
+rival_line c i (Branch p) = rw (le-ltb i 0 (omega arith)) (and-false (eqb c p))
   where
     and-false : (b : Bool) → (b && false) ≡ false
     and-false true = refl
     and-false false = refl
-rival_line c i outside = refl
+rival_line c i Outside = refl
 
 line_count : (c : ℕ) (row : List Spine) → total (of_line c) row ≡ count (λ j. is_of c (spine_at row j)) (length row)
 line_count c row =
@@ -161,9 +163,9 @@ module _ (ts : List PathToken) (c : ℕ) (inside : c < length ts) where
   pick_label (branch_of k) = go (spine_at (labels 0 ts) k)
     where
       go : (s : Spine) → is_of c (branch_from s) ≡ false
-      go (line p v) = refl
-      go (branch p) = refl
-      go outside = refl
+      go (Line p v) = refl
+      go (Branch p) = refl
+      go Outside = refl
   pick_label nowhere = refl
 
   -- as many columns of the next row come from it as the same line

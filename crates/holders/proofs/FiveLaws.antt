@@ -9,7 +9,7 @@ use lib.Dec.{eqb, leb}
 use lib.ListN.{length, length-append}
 use lib.Seq.{take_at, drop_at}
 use borrow.Author.Tests.{le-leb, eqb-true, eqb-false}
-use Rattle.paths.specs.Row.{line}
+use Rattle.paths.specs.declared.Spine.TheVariants.{Line}
 use Rattle.paths.specs.Voices.{lowest}
 use Rattle.paths.proofs.Counts.{bit, same, same_yes, same_le, four_at, low_bit}
 use Rattle.paths.proofs.VoiceLaws.{LowestIs, lowest_is}
@@ -63,7 +63,7 @@ times_append v (y ∷ hs) x = go (eqb v y.voice) (times_append v hs x)
 
 -- of the four voices it is one
 one_of_four : (w : ℕ) → w < 4 → same 0 w + same 1 w + same 2 w + same 3 w ≡ 1
-one_of_four w h = omega (arith, (four_at 0 (line 0 w)).0, (four_at 0 (line 0 w)).1, same_yes 0 0 refl, low_bit w h, same_le 0 w, same_le 1 w, same_le 2 w, same_le 3 w)
+one_of_four w h = omega (arith, (four_at 0 (Line 0 w)).0, (four_at 0 (Line 0 w)).1, same_yes 0 0 refl, low_bit w h, same_le 0 w, same_le 1 w, same_le 2 w, same_le 3 w)
 
 -- they have different voices, all below 4
 pub record Good (hs : List Holder) : Type 0 where

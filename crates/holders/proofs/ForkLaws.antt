@@ -9,7 +9,8 @@ use lib.ListN.{length, get_or}
 use Rattle.slices.proofs.TestLaws.{clash}
 use Rattle.paths.specs.declared.PathToken.{PathToken}
 use Rattle.paths.specs.declared.PathToken.TheVariants.{Split, Join, Exchange, End, Add, Other}
-use Rattle.paths.specs.Row.{Spine, spine_at}
+use Rattle.paths.specs.Row.{spine_at}
+use Rattle.paths.specs.declared.Spine.{Spine}
 use Rattle.paths.specs.Token.{is_exchange}
 use Rattle.paths.specs.Trace.{Origin, nowhere, column_of, is_part}
 use Rattle.paths.specs.Walk.{Mode, alone, joining, exchanging, act, after, starts_exchange}

@@ -16,7 +16,7 @@ use Rattle.lines.specs.Lines.{piece_end}
 use Rattle.lines.specs.Tokens.{tokens_of, is_kern}
 use Rattle.lines.proofs.PieceLaws.{piece_at_lem}
 use Rattle.paths.specs.declared.PathToken.{PathToken}
-use Rattle.paths.specs.Row.{Spine}
+use Rattle.paths.specs.declared.Spine.{Spine}
 use Rattle.paths.specs.Token.{is_join}
 use Rattle.spines.specs.Cells.{spine_of, row_of}
 use Rattle.spines.specs.Tokens.{path_tokens, record_tokens, at_hand, Ahead}

@@ -2,7 +2,9 @@
 use Rattle.std.specs.Prelude.{Bool, true, false, cond, ◌&&◌, List, [], ◌∷◌, ◌++◌, map, ◌≡◌, ℕ, zero, suc, ◌+◌, ◌<◌, eqb, ltb, length, take, drop}
 use Rattle.std.proofs.Math.Option.{Option, none, some}
 use Rattle.paths.specs.Record.{Rec}
-use Rattle.paths.specs.Row.{Spine, line, branch, outside, spine_at}
+use Rattle.paths.specs.Row.{spine_at}
+use Rattle.paths.specs.declared.Spine.{Spine}
+use Rattle.paths.specs.declared.Spine.TheVariants.{Line, Branch, Outside}
 use Rattle.paths.specs.Text.{Reading, reached, ended, refused, read_to}
 use Rattle.paths.specs.Trace.{Origin, from, branch_of, nowhere, origin_in, columns, count, is_part, part, trace}
 use Rattle.holders.specs.Voice.{free_voice}
@@ -45,9 +47,9 @@ row_in (refused q f) = []
 
 -- the voice that a line has
 abbrev pub voice_of : Spine → ℕ
-voice_of (line p v) = v
-voice_of (branch p) = 0
-voice_of outside = 0
+voice_of (Line p v) = v
+voice_of (Branch p) = 0
+voice_of Outside = 0
 
 -- "then the branches in order, ending with the one that found nothing": behind those so far, one of each of these columns
 unfoldable pub with_branches : (ℕ → ℕ → Holder) → List Holder → List ℕ → List Holder

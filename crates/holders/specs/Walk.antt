@@ -2,7 +2,8 @@
 use Rattle.std.specs.Prelude.{Bool, true, false, cond, ◌&&◌, not, List, [], ◌∷◌, ◌++◌, ◌≡◌, ℕ, zero, suc, ◌+◌, ◌≤◌, eqb, ltb, length, take}
 use Rattle.paths.specs.declared.PathToken.{PathToken}
 use Rattle.paths.specs.declared.PathToken.TheVariants.{Split, Join, Exchange, End, Add, Other}
-use Rattle.paths.specs.Row.{Spine, line, branch, outside}
+use Rattle.paths.specs.declared.Spine.{Spine}
+use Rattle.paths.specs.declared.Spine.TheVariants.{Line, Branch, Outside}
 use Rattle.paths.specs.Token.{is_join}
 use Rattle.holders.specs.Voice.{free_voice}
 use Rattle.holders.specs.Holders.{voice_of}
@@ -40,9 +41,9 @@ is_split Other = false
 
 -- a line of part p
 abbrev pub is_of : ℕ → Spine → Bool
-is_of p (line q v) = eqb p q
-is_of p (branch q) = false
-is_of p outside = false
+is_of p (Line q v) = eqb p q
+is_of p (Branch q) = false
+is_of p Outside = false
 
 -- part p, whose header column is c
 module _ (p c : ℕ) where

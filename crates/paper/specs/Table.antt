@@ -11,7 +11,8 @@ use Rattle.token.specs.Outcome.{Outcome as Reading, notice_number, read_token, r
 use Rattle.token.specs.declared.pitches.Tone.{Tone}
 use Rattle.paths.specs.declared.PathToken.{PathToken}
 use Rattle.paths.specs.Token.{path_token}
-use Rattle.paths.specs.Row.{Spine, line, branch, outside}
+use Rattle.paths.specs.declared.Spine.{Spine}
+use Rattle.paths.specs.declared.Spine.TheVariants.{Line as Line-of, Branch, Outside}
 use Rattle.paths.specs.Voices.{Outcome, next, mixed, voiceless, wide, step_row}
 use Rattle.notation.specs.Beam.{beamed, beam_number, letters_of}
 use Rattle.notation.specs.declared.beam.Beamed.{Beamed}
@@ -51,9 +52,9 @@ of_token token (Err why) = notice_number why ∷ []
 of_token token (Ok (Some n)) = 100 ∷ map octave_of (note_pitches token)
 
 abbrev of_spine : Spine → ℕ
-of_spine (line p v) = v
-of_spine (branch p) = 4
-of_spine outside = 5
+of_spine (Line-of p v) = v
+of_spine (Branch p) = 4
+of_spine Outside = 5
 
 abbrev of_outcome : Outcome → List ℕ
 of_outcome (next row) = map of_spine row
@@ -84,7 +85,7 @@ record_of text = map path_token (split 32 (ascii text))
 abbrev given : Line → List ℕ
 given (reciprocal text _) = of_value (duration_of (ascii text))
 given (note text _) = of_signifiers (reported (ascii text)) ++ of_token (ascii text) (read_token (ascii text) [])
-given (voices held text _) = of_outcome (step_row (map (line 0) held) (record_of text))
+given (voices held text _) = of_outcome (step_row (map (Line-of 0) held) (record_of text))
 given (beam text _) = of_beam (beamed false (letters_of (ascii text)).starts (letters_of (ascii text)).ends)
 given (tempo text _) = of_tempo (interpretation_of (ascii text) false)
 

@@ -13,7 +13,9 @@ use borrow.Author.Tests.{le-leb, lt-ltb}
 use Rattle.slices.proofs.TestLaws.{clash}
 use Rattle.paths.specs.declared.PathToken.{PathToken}
 use Rattle.paths.specs.Record.{Rec, star}
-use Rattle.paths.specs.Row.{Spine, line, branch, outside, branch_from, next_row, part_of, spine_at, part_at}
+use Rattle.paths.specs.Row.{branch_from, next_row, part_of, spine_at, part_at}
+use Rattle.paths.specs.declared.Spine.{Spine}
+use Rattle.paths.specs.declared.Spine.TheVariants.{Line, Branch, Outside}
 use Rattle.paths.specs.Voices.{holds}
 use Rattle.paths.specs.Trace.{Origin, from, branch_of, nowhere, origin, origin_in, column_of, part, columns, width, count, is_part, is_line, lines, precedes, rivals, FirstWithout}
 use Rattle.paths.specs.Demand.{At}
@@ -28,49 +30,49 @@ use Rattle.paths.proofs.Columns.{count_ext, part_count, is_rival, rival_count, p
 -- ---- a row whose voices are given
 
 module _ (row : List Spine) (s : Sound row) where
-  pub sound_voiced : (j p : ℕ) → spine_at row j ≢ branch p
+  pub sound_voiced : (j p : ℕ) → spine_at row j ≢ Branch p
   sound_voiced j p b =
       let x : of_branch p (spine_at row j) ≡ same p p = ap (of_branch p) b in
       omega (arith, total_at (of_branch p) refl row j, s.settled p, same_yes p p refl)
 
-  pub sound_below : (j p v : ℕ) → spine_at row j ≡ line p v → v < 4
+  pub sound_below : (j p v : ℕ) → spine_at row j ≡ Line p v → v < 4
   sound_below j p v a = go (dec_le 4 v)
     where
       go : Dec (4 ≤ v) → v < 4
       go (yes l) = absurd (let x : high (spine_at row j) ≡ 1 = ap high a ∙ ap bit (le-leb 4 v l) in omega (arith, total_at high refl row j, s.low))
       go (no l) = omega arith
 
-  pub sound_differ : (i j p v w : ℕ) → i ≢ j → spine_at row i ≡ line p v → spine_at row j ≡ line p w → v ≢ w
+  pub sound_differ : (i j p v w : ℕ) → i ≢ j → spine_at row i ≡ Line p v → spine_at row j ≡ Line p w → v ≢ w
   sound_differ i j p v w d a b q =
       let x : at p v (spine_at row i) ≡ min (same p p) (same v v) = ap (at p v) a in
       let y : at p v (spine_at row j) ≡ min (same p p) (same v w) = ap (at p v) b in
       omega (arith, two_at (at p v) refl row i j d, s.once p v, same_yes p p refl, same_yes v v refl, same_yes v w q)
 
 -- what is kept of a spine that is no branch is the spine
-same_kept : (s x : Spine) → ((p : ℕ) → s ≢ branch p) → Kept s x → x ≡ s
-same_kept (line p v) x n k = k
-same_kept (branch p) x n k = absurd (n p refl)
-same_kept outside x n k = k
+same_kept : (s x : Spine) → ((p : ℕ) → s ≢ Branch p) → Kept s x → x ≡ s
+same_kept (Line p v) x n k = k
+same_kept (Branch p) x n k = absurd (n p refl)
+same_kept Outside x n k = k
 
-branch_is : (s : Spine) (p : ℕ) → part_of (branch_from s) ≡ some p → branch_from s ≡ branch p
+branch_is : (s : Spine) (p : ℕ) → part_of (branch_from s) ≡ some p → branch_from s ≡ Branch p
 unfolding branch_from
-branch_is (line q v) p e = cc
-branch_is (branch q) p e = cc
-branch_is outside p e = clash cc
+branch_is (Line q v) p e = cc
+branch_is (Branch q) p e = cc
+branch_is Outside p e = clash cc
 
 -- a branch comes from a `*^`, a line from a line
-pick_branch : (row : List Spine) → ((k q : ℕ) → spine_at row k ≢ branch q) → (o : Origin) (q : ℕ) → pick row o ≡ branch q → (k : ℕ) × (o ≡ branch_of k)
+pick_branch : (row : List Spine) → ((k q : ℕ) → spine_at row k ≢ Branch q) → (o : Origin) (q : ℕ) → pick row o ≡ Branch q → (k : ℕ) × (o ≡ branch_of k)
 pick_branch row n (from k) q e = absurd (n k q e)
 pick_branch row n (branch_of k) q e = (k, refl)
 pick_branch row n nowhere q e = clash cc
 
-no_line : (s : Spine) (p v : ℕ) → branch_from s ≢ line p v
+no_line : (s : Spine) (p v : ℕ) → branch_from s ≢ Line p v
 unfolding branch_from
-no_line (line q w) p v e = clash cc
-no_line (branch q) p v e = clash cc
-no_line outside p v e = clash cc
+no_line (Line q w) p v e = clash cc
+no_line (Branch q) p v e = clash cc
+no_line Outside p v e = clash cc
 
-pick_line : (row : List Spine) (o : Origin) (p v : ℕ) → pick row o ≡ line p v → is_line o ≡ true
+pick_line : (row : List Spine) (o : Origin) (p v : ℕ) → pick row o ≡ Line p v → is_line o ≡ true
 pick_line row (from k) p v e = refl
 pick_line row (branch_of k) p v e = absurd (no_line (spine_at row k) p v e)
 pick_line row nowhere p v e = refl
@@ -82,7 +84,7 @@ module _ (h : List Bool) (recs : ℕ → Rec) where
     is_held : Held h recs n row
     is_held = row_held h recs n row e
 
-    no_branch : (k q : ℕ) → spine_at row k ≢ branch q
+    no_branch : (k q : ℕ) → spine_at row k ≢ Branch q
     no_branch = sound_voiced row is_held.sound
 
     origin_is : (j : ℕ) → origin_in (recs n) j ≡ origin ts j
@@ -102,7 +104,7 @@ module _ (h : List Bool) (recs : ℕ → Rec) where
     slot_is j = next_at ts row l j ∙ ap (pick row) (sym (origin_is j))
 
     -- a kern branch of the text is a branch that needs a voice, and the other way round
-    branch_slot : (j k p : ℕ) → origin_in (recs n) j ≡ branch_of k → part h recs (suc n) j ≡ some p → spine_at (next_row ts row) j ≡ branch p
+    branch_slot : (j k p : ℕ) → origin_in (recs n) j ≡ branch_of k → part h recs (suc n) j ≡ some p → spine_at (next_row ts row) j ≡ Branch p
     unfolding part_at
     branch_slot j k p o a =
         let b : spine_at (next_row ts row) j ≡ branch_from (spine_at row k) = slot_is j ∙ ap (pick row) o in
@@ -164,7 +166,7 @@ module _ (h : List Bool) (recs : ℕ → Rec) where
           (gives_at ts row r is_held.sound g j))
 
       pub given_lowest : (j k p : ℕ) → origin_in (recs n) j ≡ branch_of k → part h recs (suc n) j ≡ some p →
-          (v : ℕ) × (spine_at r j ≡ line p v) × ((u : ℕ) → u < v → (i : ℕ) × (spine_at r i ≡ line p u) × (precedes recs n j i ≡ true))
+          (v : ℕ) × (spine_at r j ≡ Line p v) × ((u : ℕ) → u < v → (i : ℕ) × (spine_at r i ≡ Line p u) × (precedes recs n j i ≡ true))
       unfolding precedes
       given_lowest j k p o a = (b.0, b.1, λ u lt. go u (b.2 u lt))
         where
@@ -175,7 +177,7 @@ module _ (h : List Bool) (recs : ℕ → Rec) where
           left true i lt = refl
           left false i lt = lt-ltb i j lt
 
-          go : (u : ℕ) → Had (λ p v. 0) (next_row ts row) r j p u → (i : ℕ) × (spine_at r i ≡ line p u) × ((is_line (origin_in (recs n) i) || ltb i j) ≡ true)
+          go : (u : ℕ) → Had (λ p v. 0) (next_row ts row) r j p u → (i : ℕ) × (spine_at r i ≡ Line p u) × ((is_line (origin_in (recs n) i) || ltb i j) ≡ true)
           go u (inl d) = absurd (omega arith)
           go u (inr (i, y, inl lt)) = (i, y, left (is_line (origin_in (recs n) i)) i lt)
           go u (inr (i, y, inr m)) = (i, y, ap (λ (c : Bool). c || ltb i j) (pick_line row (origin_in (recs n) i) p u (sym (slot_is i) ∙ m)))

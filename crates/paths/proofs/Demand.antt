@@ -10,7 +10,9 @@ use lib.ListN.{length}
 use Rattle.slices.proofs.TestLaws.{clash}
 use Rattle.paths.specs.declared.PathToken.{PathToken}
 use Rattle.paths.specs.Record.{Rec, star, plain, tokens}
-use Rattle.paths.specs.Row.{Spine, line, spine_at, part_at}
+use Rattle.paths.specs.Row.{spine_at, part_at}
+use Rattle.paths.specs.declared.Spine.{Spine}
+use Rattle.paths.specs.declared.Spine.TheVariants.{Line}
 use Rattle.paths.specs.Voices.{Outcome, next, mixed, voiceless, wide}
 use Rattle.paths.specs.Trace.{from, branch_of, origin_in, columns, part, lines, precedes, FirstWithout, Unmixed, FirstMixed}
 use Rattle.paths.specs.Text.{header_row, Reading, reached, ended, refused, reading, read_to}
@@ -67,12 +69,12 @@ module _ (h : List Bool) (recs : ℕ → Rec) (n : ℕ) (row : List Spine) (e : 
       go (plain k) x l t = let y : from j ≡ from i = ap (λ (z : Rec). origin_in z j) (sym x) ∙ o in let w : j ≡ i = cc in rw (w, ← t)
 
   branch_lowest : (r : List Spine) → At h recs (suc n) r → (j k p : ℕ) → origin_in (recs n) j ≡ branch_of k → part h recs (suc n) j ≡ some p →
-      (v : ℕ) × (spine_at r j ≡ line p v) × ((u : ℕ) → u < v → (i : ℕ) × (spine_at r i ≡ line p u) × (precedes recs n j i ≡ true))
+      (v : ℕ) × (spine_at r j ≡ Line p v) × ((u : ℕ) → u < v → (i : ℕ) × (spine_at r i ≡ Line p u) × (precedes recs n j i ≡ true))
   unfolding origin_in
   branch_lowest r f j k p o a = go (recs n) refl (passed r f).1 (passed r f).2
     where
-      go : (x : Rec) → recs n ≡ x → tokens x ≡ length row → Takes x row r → (v : ℕ) × (spine_at r j ≡ line p v) × ((u : ℕ) → u < v →
-          (i : ℕ) × (spine_at r i ≡ line p u) × (precedes recs n j i ≡ true))
+      go : (x : Rec) → recs n ≡ x → tokens x ≡ length row → Takes x row r → (v : ℕ) × (spine_at r j ≡ Line p v) × ((u : ℕ) → u < v →
+          (i : ℕ) × (spine_at r i ≡ Line p u) × (precedes recs n j i ≡ true))
       go (star ts) x l t = given_lowest h recs n row e ts x l r t.0 j k p o a
       go (plain m) x l t = absurd (let y : from j ≡ branch_of k = ap (λ (z : Rec). origin_in z j) (sym x) ∙ o in clash cc)
 

@@ -8,7 +8,9 @@ use lib.ListN.{replicate}
 use Rattle.paths.specs.declared.PathToken.{PathToken}
 use Rattle.paths.specs.declared.PathToken.TheVariants.{Split, Join, Exchange, End, Add, Other}
 use Rattle.paths.specs.Record.{Rec, star, plain}
-use Rattle.paths.specs.Row.{Spine, line, outside, branch_from, advance, part_at}
+use Rattle.paths.specs.Row.{branch_from, advance, part_at}
+use Rattle.paths.specs.declared.Spine.{Spine}
+use Rattle.paths.specs.declared.Spine.TheVariants.{Line, Outside}
 use Rattle.paths.specs.Joins.{strays, mixed_from}
 use Rattle.paths.specs.Voices.{Outcome, next, mixed, voiceless, wide, holds, lowest, with_voice, give_voices, voice_row, step_row}
 use Rattle.paths.specs.Trace.{from, branch_of, nowhere, exchanges_right, exchanges_left, follows_join, gives_of, gives, before, width, source_of, source, look_back, origin, origin_in, trace, kerns_before, header_part, part}
@@ -26,41 +28,41 @@ example row ts o = record { row = row; tokens = ts; outcome = o }
 
 -- a part's lines with voices 0 to 3
 four : ℕ → List Spine
-four p = line p 0 ∷ line p 1 ∷ line p 2 ∷ line p 3 ∷ []
+four p = Line p 0 ∷ Line p 1 ∷ Line p 2 ∷ Line p 3 ∷ []
 
 -- n parts of one line each, from part p on
 many : ℕ → ℕ → List Spine
 many p zero = []
-many p (suc n) = line p 0 ∷ many (suc p) n
+many p (suc n) = Line p 0 ∷ many (suc p) n
 
 examples : List Example
 examples =
     -- voices 0 1 2 3 with `*^ *v *v *`: the branch gets 2
-    example (four 0) (Split ∷ Join ∷ Join ∷ Other ∷ []) (next (line 0 0 ∷ line 0 2 ∷ line 0 1 ∷ line 0 3 ∷ []))
+    example (four 0) (Split ∷ Join ∷ Join ∷ Other ∷ []) (next (Line 0 0 ∷ Line 0 2 ∷ Line 0 1 ∷ Line 0 3 ∷ []))
     -- with `*^ * * *`: 8
     ∷ example (four 0) (Split ∷ Other ∷ Other ∷ Other ∷ []) (voiceless 0)
     -- voices 0 1 with `*^ *^`: branches 2, 3
-    ∷ example (line 0 0 ∷ line 0 1 ∷ []) (Split ∷ Split ∷ []) (next (line 0 0 ∷ line 0 2 ∷ line 0 1 ∷ line 0 3 ∷ []))
+    ∷ example (Line 0 0 ∷ Line 0 1 ∷ []) (Split ∷ Split ∷ []) (next (Line 0 0 ∷ Line 0 2 ∷ Line 0 1 ∷ Line 0 3 ∷ []))
     -- a voice that ends to the right of the branch is free
-    ∷ example (four 0) (Split ∷ Split ∷ End ∷ End ∷ []) (next (line 0 0 ∷ line 0 2 ∷ line 0 1 ∷ line 0 3 ∷ []))
+    ∷ example (four 0) (Split ∷ Split ∷ End ∷ End ∷ []) (next (Line 0 0 ∷ Line 0 2 ∷ Line 0 1 ∷ Line 0 3 ∷ []))
     -- `*x` is paired from the left
-    ∷ example (many 0 3) (Exchange ∷ Exchange ∷ Exchange ∷ []) (next (line 1 0 ∷ line 0 0 ∷ line 2 0 ∷ []))
-    ∷ example (many 0 4) (Exchange ∷ Other ∷ Exchange ∷ Exchange ∷ []) (next (line 0 0 ∷ line 1 0 ∷ line 3 0 ∷ line 2 0 ∷ []))
+    ∷ example (many 0 3) (Exchange ∷ Exchange ∷ Exchange ∷ []) (next (Line 1 0 ∷ Line 0 0 ∷ Line 2 0 ∷ []))
+    ∷ example (many 0 4) (Exchange ∷ Other ∷ Exchange ∷ Exchange ∷ []) (next (Line 0 0 ∷ Line 1 0 ∷ Line 3 0 ∷ Line 2 0 ∷ []))
     -- a join keeps its first line, of one part or outside kern; a lone `*v` passes
-    ∷ example (four 0) (Other ∷ Join ∷ Join ∷ Join ∷ []) (next (line 0 0 ∷ line 0 1 ∷ []))
-    ∷ example (outside ∷ outside ∷ line 0 0 ∷ []) (Join ∷ Join ∷ Other ∷ []) (next (outside ∷ line 0 0 ∷ []))
+    ∷ example (four 0) (Other ∷ Join ∷ Join ∷ Join ∷ []) (next (Line 0 0 ∷ Line 0 1 ∷ []))
+    ∷ example (Outside ∷ Outside ∷ Line 0 0 ∷ []) (Join ∷ Join ∷ Other ∷ []) (next (Outside ∷ Line 0 0 ∷ []))
     ∷ example (many 0 2) (Join ∷ Other ∷ []) (next (many 0 2))
     -- over two parts, or over kern and outside: 17 with the first such run's first column, from 1
-    ∷ example (line 0 0 ∷ line 0 1 ∷ line 1 0 ∷ []) (Join ∷ Join ∷ Join ∷ []) (mixed 1)
-    ∷ example (line 0 0 ∷ outside ∷ line 1 0 ∷ []) (Join ∷ Join ∷ Other ∷ []) (mixed 1)
-    ∷ example (line 0 0 ∷ outside ∷ line 0 1 ∷ []) (Other ∷ Join ∷ Join ∷ []) (mixed 2)
-    ∷ example (line 0 0 ∷ line 0 1 ∷ many 1 5) (Join ∷ Join ∷ Other ∷ Join ∷ Join ∷ Join ∷ Other ∷ []) (mixed 4)
+    ∷ example (Line 0 0 ∷ Line 0 1 ∷ Line 1 0 ∷ []) (Join ∷ Join ∷ Join ∷ []) (mixed 1)
+    ∷ example (Line 0 0 ∷ Outside ∷ Line 1 0 ∷ []) (Join ∷ Join ∷ Other ∷ []) (mixed 1)
+    ∷ example (Line 0 0 ∷ Outside ∷ Line 0 1 ∷ []) (Other ∷ Join ∷ Join ∷ []) (mixed 2)
+    ∷ example (Line 0 0 ∷ Line 0 1 ∷ many 1 5) (Join ∷ Join ∷ Other ∷ Join ∷ Join ∷ Join ∷ Other ∷ []) (mixed 4)
     -- 17 comes before 8
     ∷ example (four 0 ++ many 1 2) (Split ∷ Other ∷ Other ∷ Other ∷ Join ∷ Join ∷ []) (mixed 5)
     -- outside kern a branch needs no voice, and `*+` adds there
-    ∷ example (outside ∷ line 0 0 ∷ []) (Split ∷ Add ∷ []) (next (outside ∷ outside ∷ line 0 0 ∷ outside ∷ []))
+    ∷ example (Outside ∷ Line 0 0 ∷ []) (Split ∷ Add ∷ []) (next (Outside ∷ Outside ∷ Line 0 0 ∷ Outside ∷ []))
     -- two parts of four lines, crossed: the figure of 8 is the part of the first branch
-    ∷ example (line 1 0 ∷ line 0 0 ∷ line 1 1 ∷ line 0 1 ∷ line 0 2 ∷ line 1 2 ∷ line 0 3 ∷ line 1 3 ∷ []) (Split ∷ Split ∷ replicate 6 Other) (voiceless 1)
+    ∷ example (Line 1 0 ∷ Line 0 0 ∷ Line 1 1 ∷ Line 0 1 ∷ Line 0 2 ∷ Line 1 2 ∷ Line 0 3 ∷ Line 1 3 ∷ []) (Split ∷ Split ∷ replicate 6 Other) (voiceless 1)
     -- 8 comes before 9
     ∷ example (four 0 ++ many 1 252) (Split ∷ replicate 255 Other) (voiceless 0)
     ∷ example (four 0 ++ many 1 252) (Other ∷ Other ∷ Other ∷ Other ∷ Split ∷ replicate 251 Other) (wide 257)
@@ -85,11 +87,11 @@ crossing (suc (suc (suc (suc (suc n))))) = plain 7
 
 -- the rows that it reaches, and its end; and the same with a record of two tokens
 readings : map (read_to header crossing) (0 ∷ 1 ∷ 2 ∷ 3 ∷ 4 ∷ 5 ∷ 6 ∷ 7 ∷ []) ≡
-    reached (line 0 0 ∷ outside ∷ line 1 0 ∷ [])
-    ∷ reached (line 0 0 ∷ line 1 0 ∷ outside ∷ [])
-    ∷ reached (line 0 0 ∷ line 1 0 ∷ outside ∷ [])
-    ∷ reached (line 0 0 ∷ line 0 1 ∷ line 1 0 ∷ line 1 1 ∷ outside ∷ outside ∷ [])
-    ∷ reached (line 0 0 ∷ [])
+    reached (Line 0 0 ∷ Outside ∷ Line 1 0 ∷ [])
+    ∷ reached (Line 0 0 ∷ Line 1 0 ∷ Outside ∷ [])
+    ∷ reached (Line 0 0 ∷ Line 1 0 ∷ Outside ∷ [])
+    ∷ reached (Line 0 0 ∷ Line 0 1 ∷ Line 1 0 ∷ Line 1 1 ∷ Outside ∷ Outside ∷ [])
+    ∷ reached (Line 0 0 ∷ [])
     ∷ reached []
     ∷ ended
     ∷ ended

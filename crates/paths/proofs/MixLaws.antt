@@ -11,7 +11,8 @@ use borrow.Author.Tests.{eq-eqb}
 use Rattle.slices.proofs.TestLaws.{clash}
 use Rattle.paths.specs.declared.PathToken.{PathToken}
 use Rattle.paths.specs.Record.{Rec, star, plain, tokens}
-use Rattle.paths.specs.Row.{Spine, part_at}
+use Rattle.paths.specs.Row.{part_at}
+use Rattle.paths.specs.declared.Spine.{Spine}
 use Rattle.paths.specs.Joins.{mixed_run}
 use Rattle.paths.specs.Voices.{mixed, step_row}
 use Rattle.paths.specs.Trace.{origin_in, column_of, trace, header_part, part, InRun, Joined, MayEnd, at_header, from_none, from_one, from_join, Unmixed, FirstMixed}

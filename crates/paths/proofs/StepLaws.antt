@@ -11,7 +11,9 @@ use lib.ListN.{length, get_or, length-map, get_or-map}
 use borrow.Author.Tests.{eqb-true, eqb-false, leb-true, leb-false}
 use Rattle.paths.specs.declared.PathToken.{PathToken}
 use Rattle.paths.specs.Record.{Rec, star, plain, tokens}
-use Rattle.paths.specs.Row.{Spine, line, branch, outside, branch_from, next_row, part_of, spine_at, part_at}
+use Rattle.paths.specs.Row.{branch_from, next_row, part_of, spine_at, part_at}
+use Rattle.paths.specs.declared.Spine.{Spine}
+use Rattle.paths.specs.declared.Spine.TheVariants.{Line, Branch, Outside}
 use Rattle.paths.specs.Joins.{mixed_run}
 use Rattle.paths.specs.Voices.{holds, Outcome, next, mixed, voiceless, wide, give_voices, voice_row, narrow, unmixed, step_row}
 use Rattle.paths.specs.Trace.{Origin, from, branch_of, nowhere, origin, origin_in, column_of, width, width_in}
@@ -26,7 +28,7 @@ use Rattle.paths.proofs.VoiceLaws.{Voiced, Lacks, GiveIs, give_is, Fair, Sound, 
 -- ---- the next row, voices aside
 
 pub next_at : (ts : List PathToken) (row : List Spine) → length ts ≡ length row → (j : ℕ) → spine_at (next_row ts row) j ≡ pick row (origin ts j)
-next_at ts row e j = ap (λ (l : List Spine). get_or l j outside) (next_origins ts row e) ∙ get_or-map (pick row) (origins alone 0 ts) j nowhere
+next_at ts row e j = ap (λ (l : List Spine). get_or l j Outside) (next_origins ts row e) ∙ get_or-map (pick row) (origins alone 0 ts) j nowhere
     ∙ ap (pick row) (origins_at ts j)
 
 pub next_length : (ts : List PathToken) (row : List Spine) → length ts ≡ length row → length (next_row ts row) ≡ width ts
@@ -34,9 +36,9 @@ next_length ts row e = ap length (next_origins ts row e) ∙ length-map (origins
 
 pub branch_part : (s : Spine) → part_of (branch_from s) ≡ part_of s
 unfolding branch_from
-branch_part (line p v) = refl
-branch_part (branch p) = refl
-branch_part outside = refl
+branch_part (Line p v) = refl
+branch_part (Branch p) = refl
+branch_part Outside = refl
 
 pick_part : (row : List Spine) (o : Origin) → part_of (pick row o) ≡ bind (column_of o) (part_at row)
 unfolding bind part_at

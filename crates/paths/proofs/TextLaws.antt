@@ -9,7 +9,9 @@ use native.Mathlib.Decide.{ℕ_discrete}
 use lib.ListN.{length, get_or}
 use Rattle.slices.proofs.TestLaws.{clash}
 use Rattle.paths.specs.Record.{Rec}
-use Rattle.paths.specs.Row.{Spine, line, spine_at, part_at}
+use Rattle.paths.specs.Row.{spine_at, part_at}
+use Rattle.paths.specs.declared.Spine.{Spine}
+use Rattle.paths.specs.declared.Spine.TheVariants.{Line}
 use Rattle.paths.specs.Trace.{origin_in, column_of, trace, kerns_before, header_part, part, columns, width_in}
 use Rattle.paths.specs.Text.{header_from, header_row, Reading, reached, ended, refused, take_record, and_then, read_to}
 use Rattle.paths.proofs.Counts.{same, same_no, same_le, total, at, of_branch, high, low_bit}
@@ -67,7 +69,7 @@ header_part_lem : (h : List Bool) (k : ℕ) → part_at (header_row h) k ≡ hea
 unfolding header_part
 header_part_lem h k = let e : 0 + kerns_before h k ≡ kerns_before h k = omega arith in rw e at (header_from_lem h 0 k)
 
-pub header_voice : (h : List Bool) (n j p v : ℕ) → spine_at (header_from n h) j ≡ line p v → v ≡ 0
+pub header_voice : (h : List Bool) (n j p v : ℕ) → spine_at (header_from n h) j ≡ Line p v → v ≡ 0
 unfolding header_from
 header_voice [] n j p v e = clash cc
 header_voice (true ∷ h) n zero p v e = cc

@@ -4,7 +4,9 @@ use Rattle.std.specs.Prelude.{◌≡◌, Bool, true, List, ◌≢◌, ◌↔◌,
 use Rattle.std.proofs.Math.Option.{Option, some, bind}
 use Rattle.paths.specs.declared.PathToken.{PathToken}
 use Rattle.paths.specs.Record.{Rec, star, plain, tokens}
-use Rattle.paths.specs.Row.{Spine, line, branch, part_of, spine_at}
+use Rattle.paths.specs.Row.{part_of, spine_at}
+use Rattle.paths.specs.declared.Spine.{Spine}
+use Rattle.paths.specs.declared.Spine.TheVariants.{Line, Branch}
 use Rattle.paths.specs.Trace.{from, branch_of, origin_in, columns, trace, header_part, part, lines, precedes, FirstWithout, MayEnd, Unmixed, FirstMixed}
 use Rattle.paths.specs.Text.{reached, ended, refused, read_to}
 
@@ -18,16 +20,16 @@ Fits h recs n = (1 ≤ columns h recs n) × (tokens (recs n) ≡ columns h recs 
 
 pub record Demand (h : List Bool) (recs : ℕ → Rec) : Type 0 where
   -- "The first row is the header, `**kern` columns with voice 0."
-  pub starts : (row : List Spine) × At h recs 0 row × ((j p v : ℕ) → spine_at row j ≡ line p v → v ≡ 0)
+  pub starts : (row : List Spine) × At h recs 0 row × ((j p v : ℕ) → spine_at row j ≡ Line p v → v ≡ 0)
   -- A row that is reached has as many spines as the text says.
   pub size : (n : ℕ) (row : List Spine) → At h recs n row → length row ≡ columns h recs n
   -- The part carried forward is that of the `**kern` header column to which the text traces the column back, or both are outside kern.
   pub in_part : (n : ℕ) (row : List Spine) → At h recs n row → (j : ℕ) → part_of (spine_at row j) ≡ part h recs n j
   -- Every kern line has a voice below 4, and lines of one part have different voices.
-  pub voiced : (n : ℕ) (row : List Spine) → At h recs n row → (j p : ℕ) → spine_at row j ≢ branch p
-  pub below_4 : (n : ℕ) (row : List Spine) → At h recs n row → (j p v : ℕ) → spine_at row j ≡ line p v → v < 4
+  pub voiced : (n : ℕ) (row : List Spine) → At h recs n row → (j p : ℕ) → spine_at row j ≢ Branch p
+  pub below_4 : (n : ℕ) (row : List Spine) → At h recs n row → (j p v : ℕ) → spine_at row j ≡ Line p v → v < 4
   pub differ : (n : ℕ) (row : List Spine) → At h recs n row →
-      (i j p v w : ℕ) → i ≢ j → spine_at row i ≡ line p v → spine_at row j ≡ line p w → v ≢ w
+      (i j p v w : ℕ) → i ≢ j → spine_at row i ≡ Line p v → spine_at row j ≡ Line p w → v ≢ w
   -- "Lines keep their voice, a join its first line's."
   pub keeps : (n : ℕ) (row next : List Spine) → At h recs n row → At h recs (suc n) next →
       (i j : ℕ) → origin_in (recs n) j ≡ from i → spine_at next j ≡ spine_at row i
@@ -35,7 +37,7 @@ pub record Demand (h : List Bool) (recs : ℕ → Rec) : Type 0 where
   -- line has its own, by `differ`).
   pub lowest : (n : ℕ) (row next : List Spine) → At h recs n row → At h recs (suc n) next →
       (j k p : ℕ) → origin_in (recs n) j ≡ branch_of k → part h recs (suc n) j ≡ some p →
-      (v : ℕ) × (spine_at next j ≡ line p v) × ((u : ℕ) → u < v → (i : ℕ) × (spine_at next i ≡ line p u) × (precedes recs n j i ≡ true))
+      (v : ℕ) × (spine_at next j ≡ Line p v) × ((u : ℕ) → u < v → (i : ℕ) × (spine_at next i ≡ Line p u) × (precedes recs n j i ≡ true))
   -- With no active spine left the next record ends the reading.
   pub ends : (n : ℕ) (row : List Spine) → At h recs n row → (read_to h recs (suc n) ≡ ended) ↔ (columns h recs n ≡ 0)
   -- Question 6, with the record's count of tokens.

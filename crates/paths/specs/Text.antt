@@ -1,14 +1,15 @@
 -- The reading of a text's records, one after another.
 use Rattle.std.specs.Prelude.{Bool, true, false, cond, List, [], ◌∷◌, ℕ, zero, suc, eqb, length}
 use Rattle.paths.specs.Record.{Rec, star, plain, tokens}
-use Rattle.paths.specs.Row.{Spine, line, outside}
+use Rattle.paths.specs.declared.Spine.{Spine}
+use Rattle.paths.specs.declared.Spine.TheVariants.{Line, Outside}
 use Rattle.paths.specs.Voices.{Outcome, next, mixed, voiceless, wide, step_row}
 
 -- "The first row is the header, `**kern` columns with voice 0": h says which columns these are, and the parts are numbered on from p
 unfoldable pub header_from : ℕ → List Bool → List Spine
 header_from p [] = []
-header_from p (true ∷ h) = line p 0 ∷ header_from (suc p) h
-header_from p (false ∷ h) = outside ∷ header_from p h
+header_from p (true ∷ h) = Line p 0 ∷ header_from (suc p) h
+header_from p (false ∷ h) = Outside ∷ header_from p h
 
 abbrev pub header_row : List Bool → List Spine
 header_row h = header_from 0 h

@@ -1,7 +1,8 @@
 -- Barlines and closings.
 use Rattle.std.specs.Prelude.{ℕ, ◌+◌, Bool, true, false, cond, ◌||◌, List, [], ◌∷◌, map, eqb}
 use Rattle.notation.specs.Barline.{barlines_of, barline_number}
-use Rattle.paths.specs.Row.{Spine, line, branch, outside}
+use Rattle.paths.specs.declared.Spine.{Spine}
+use Rattle.paths.specs.declared.Spine.TheVariants.{Line, Branch, Outside}
 use Rattle.sheet.specs.Record.{BAR}
 use Rattle.sheet.specs.declared.Bar.{Bar}
 use Rattle.reading.specs.State.{State, Result, with_parts, with_bars}
@@ -99,9 +100,9 @@ unfoldable pub keep_left : ℕ → State → State
 keep_left left st = cond (eqb left 0) st (with_parts st (map (left_anew left) st.parts))
 
 abbrev pub is_kern_spine : Spine → Bool
-is_kern_spine (line p v) = true
-is_kern_spine (branch p) = true
-is_kern_spine outside = false
+is_kern_spine (Line p v) = true
+is_kern_spine (Branch p) = true
+is_kern_spine Outside = false
 
 -- "The first kern spine's token (else the first token) decides a `=` record."
 unfoldable pub deciding_or : List ℕ → List Spine → List Token → List ℕ

@@ -12,7 +12,8 @@ use Rattle.paths.specs.declared.PathToken.{PathToken}
 use Rattle.paths.specs.declared.PathToken.TheVariants.{Split, Join, Exchange, End, Add, Other}
 use Rattle.paths.specs.Token.{path_token}
 use Rattle.paths.specs.Trace.{exchanges_right, exchanges_left}
-use Rattle.paths.specs.Row.{Spine, line, branch, outside}
+use Rattle.paths.specs.declared.Spine.{Spine}
+use Rattle.paths.specs.declared.Spine.TheVariants.{Line, Branch, Outside}
 use Rattle.paths.specs.Voices.{Outcome, next, mixed, voiceless, wide, step_row}
 use Rattle.sheet.specs.Record.{span_of}
 use Rattle.sheet.specs.declared.Bar.{Bar}
@@ -196,9 +197,9 @@ heeded (Err why) k j t p part st = notify (notice_number why) k j (span_of_token
 
 -- an ordinary interpretation in column j of line k: nothing outside kern
 abbrev pub interpret : Spine → ℕ → ℕ → Token → State → Result
-interpret (line p v) k j t st = heeded (interpretation_of t.bytes (part_at st p).noted) k j t p (part_at st p) st
-interpret (branch p) k j t st = quiet st
-interpret outside k j t st = quiet st
+interpret (Line p v) k j t st = heeded (interpretation_of t.bytes (part_at st p).noted) k j t p (part_at st p) st
+interpret (Branch p) k j t st = quiet st
+interpret Outside k j t st = quiet st
 
 -- "`*+` adds a spine outside kern on the right (7)"; a `*x` "left over is an ordinary interpretation"
 abbrev pub column_by : PathToken → Bool → Spine → ℕ → ℕ → Token → State → Result

@@ -3,7 +3,7 @@ use Rattle.std.specs.Prelude.{ℕ, false, List, [], ◌∷◌, get_or, set}
 use Rattle.sheet.specs.Record.{Record}
 use Rattle.sheet.specs.declared.Bar.{Bar}
 use Rattle.sheet.specs.declared.Span.{Span}
-use Rattle.paths.specs.Row.{Spine}
+use Rattle.paths.specs.declared.Spine.{Spine}
 use Rattle.reading.specs.declared.Part.{Part}
 
 abbrev pub empty : Span

@@ -11,7 +11,8 @@ use Rattle.lines.specs.Lines.{kind_of}
 use Rattle.lines.specs.Tokens.{tokens_of}
 use Rattle.lines.specs.declared.Kind.{Kind}
 use Rattle.lines.specs.declared.Kind.TheVariants.{Empty, Reference, Comment, Star, Bar, Data}
-use Rattle.paths.specs.Row.{line as Line-of, spine_at}
+use Rattle.paths.specs.Row.{spine_at}
+use Rattle.paths.specs.declared.Spine.TheVariants.{Line as Line-of}
 use Rattle.spines.specs.Cells.{row_of}
 use Rattle.repair.specs.Repair.{repaired, Repaired, repaired_of}
 use Rattle.repair.specs.declared.Repair.{Repair}

@@ -10,22 +10,24 @@ use lib.Seq.{take-suc, drop-cons, get_or-drop}
 use native.Mathlib.Numerals.{add-one}
 use borrow.Author.Tests.{eq-eqb, ne_eqb, lt-ltb, le-ltb, eqb-false, ltb-true, ltb-false}
 use Rattle.slices.proofs.TestLaws.{clash}
-use Rattle.paths.specs.Row.{Spine, line, branch, outside, branch_from, spine_at}
+use Rattle.paths.specs.Row.{branch_from, spine_at}
+use Rattle.paths.specs.declared.Spine.{Spine}
+use Rattle.paths.specs.declared.Spine.TheVariants.{Line, Branch, Outside}
 use Rattle.spines.specs.Cells.{spine_of, row_of, is_branch}
 
 -- ---- one cell
 
-pub cell_outside : (c : ℕ) → c / 8 ≡ 0 → spine_of c ≡ outside
+pub cell_outside : (c : ℕ) → c / 8 ≡ 0 → spine_of c ≡ Outside
 unfolding spine_of
 cell_outside c z = rw (eq-eqb (c / 8) 0 z)
 
-pub cell_line : (c p : ℕ) → c / 8 ≡ p + 1 → c % 8 < 4 → spine_of c ≡ line p (c % 8)
+pub cell_line : (c p : ℕ) → c / 8 ≡ p + 1 → c % 8 < 4 → spine_of c ≡ Line p (c % 8)
 unfolding spine_of
 cell_line c p q v =
     let n : c / 8 - 1 ≡ p = omega arith in
     rw (ne_eqb (c / 8) 0 (λ e. omega arith), lt-ltb (c % 8) 4 v, n)
 
-pub cell_branch : (c p : ℕ) → c / 8 ≡ p + 1 → 4 ≤ c % 8 → spine_of c ≡ branch p
+pub cell_branch : (c p : ℕ) → c / 8 ≡ p + 1 → 4 ≤ c % 8 → spine_of c ≡ Branch p
 unfolding spine_of
 cell_branch c p q v =
     let n : c / 8 - 1 ≡ p = omega arith in
@@ -39,7 +41,7 @@ cell_fork c =
     let v : (c / 8 * 8 + 4) % 8 ≡ 4 = omega arith in
     rw (q, v) (go (eqb (c / 8) 0) (ltb (c % 8) 4))
   where
-    go : (a b : Bool) → cond a outside (branch (c / 8 - 1)) ≡ branch_from (cond a outside (cond b (line (c / 8 - 1) (c % 8)) (branch (c / 8 - 1))))
+    go : (a b : Bool) → cond a Outside (Branch (c / 8 - 1)) ≡ branch_from (cond a Outside (cond b (Line (c / 8 - 1) (c % 8)) (Branch (c / 8 - 1))))
     go true b = refl
     go false true = refl
     go false false = refl
@@ -83,16 +85,16 @@ pub branch_part : (c : ℕ) → is_branch (spine_of c) ≡ true → 0 < c / 8
 unfolding spine_of
 branch_part c h = go (eqb (c / 8) 0) refl h
   where
-    go : (b : Bool) → eqb (c / 8) 0 ≡ b → is_branch (cond b outside (cond (ltb (c % 8) 4) (line (c / 8 - 1) (c % 8)) (branch (c / 8 - 1)))) ≡ true → 0 < c / 8
+    go : (b : Bool) → eqb (c / 8) 0 ≡ b → is_branch (cond b Outside (cond (ltb (c % 8) 4) (Line (c / 8 - 1) (c % 8)) (Branch (c / 8 - 1)))) ≡ true → 0 < c / 8
     go true e g = clash cc
     go false e g = let n : (c / 8 ≡ 0 → ⊥) = eqb-false (c / 8) 0 e in omega arith
 
-pub branch_spine : (c : ℕ) → is_branch (spine_of c) ≡ true → spine_of c ≡ branch (c / 8 - 1)
+pub branch_spine : (c : ℕ) → is_branch (spine_of c) ≡ true → spine_of c ≡ Branch (c / 8 - 1)
 unfolding spine_of
 branch_spine c h = go (eqb (c / 8) 0) (ltb (c % 8) 4) h
   where
-    go : (a b : Bool) → is_branch (cond a outside (cond b (line (c / 8 - 1) (c % 8)) (branch (c / 8 - 1)))) ≡ true →
-        cond a outside (cond b (line (c / 8 - 1) (c % 8)) (branch (c / 8 - 1))) ≡ branch (c / 8 - 1)
+    go : (a b : Bool) → is_branch (cond a Outside (cond b (Line (c / 8 - 1) (c % 8)) (Branch (c / 8 - 1)))) ≡ true →
+        cond a Outside (cond b (Line (c / 8 - 1) (c % 8)) (Branch (c / 8 - 1))) ≡ Branch (c / 8 - 1)
     go true b g = cc
     go false true g = cc
     go false false g = refl

@@ -15,7 +15,7 @@ use Rattle.paths.specs.declared.PathToken.{PathToken}
 use Rattle.paths.specs.declared.PathToken.TheVariants.{Other}
 use Rattle.paths.specs.Token.{path_token}
 use Rattle.paths.specs.Record.{star, plain, tokens}
-use Rattle.paths.specs.Row.{Spine}
+use Rattle.paths.specs.declared.Spine.{Spine}
 use Rattle.paths.specs.Voices.{step_row}
 use Rattle.paths.specs.Text.{reached, refused, reading, read_record, take_record}
 use Rattle.repair.specs.Repair.{each, first_of, is_bar, identical_bars, repair_of, repair_by, repaired, repaired_of}

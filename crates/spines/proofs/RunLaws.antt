@@ -18,7 +18,8 @@ use Rattle.slices.proofs.TestLaws.{clash}
 use Rattle.paths.specs.declared.PathToken.{PathToken}
 use Rattle.paths.specs.Token.{is_join}
 use Rattle.paths.specs.Joins.{same_origin, strays, mixed_from, mixed_run}
-use Rattle.paths.specs.Row.{line, branch, outside, part_of, part_at}
+use Rattle.paths.specs.Row.{part_of, part_at}
+use Rattle.paths.specs.declared.Spine.TheVariants.{Line, Branch, Outside}
 use Rattle.paths.specs.Voices.{Outcome, mixed, unmixed}
 use Rattle.spines.specs.Cells.{spine_of, row_of}
 use Rattle.spines.specs.Tokens.{path_tokens, record_tokens, at_hand, Ahead}
@@ -34,7 +35,7 @@ cell_origin : (c : ℕ) → part_of (spine_of c) ≡ origin_of (c / 8)
 unfolding spine_of
 cell_origin c = go (eqb (c / 8) 0) (ltb (c % 8) 4)
   where
-    go : (a b : Bool) → part_of (cond a outside (cond b (line (c / 8 - 1) (c % 8)) (branch (c / 8 - 1)))) ≡ cond a none (some (c / 8 - 1))
+    go : (a b : Bool) → part_of (cond a Outside (cond b (Line (c / 8 - 1) (c % 8)) (Branch (c / 8 - 1)))) ≡ cond a none (some (c / 8 - 1))
     go true b = refl
     go false true = refl
     go false false = refl
@@ -100,19 +101,19 @@ module _ (origin : ℕ → Option ℕ) where
 -- ---- the loop
 
 -- what is found from here on is what is found of the whole
-pub record RunsLeft (line row : List ℕ) (from : ℕ) (joined : Bool) (begin i : ℕ) : Type 0 where
+pub record RunsLeft (Line row : List ℕ) (from : ℕ) (joined : Bool) (begin i : ℕ) : Type 0 where
   pub high : i ≤ length row
   pub low : begin ≤ i
-  pub same : resume (part_at (row_of row)) joined begin i (path_tokens (length row - i) (pieces 9 from line)) ≡ mixed_run (part_at (row_of row)) (record_tokens (length row) line)
+  pub same : resume (part_at (row_of row)) joined begin i (path_tokens (length row - i) (pieces 9 from Line)) ≡ mixed_run (part_at (row_of row)) (record_tokens (length row) Line)
 
-pub runs_first : {line row : List ℕ} → RunsLeft line row 0 false 0 0
-runs_first {line} {row} = record {
+pub runs_first : {Line row : List ℕ} → RunsLeft Line row 0 false 0 0
+runs_first {Line} {row} = record {
   high = omega arith;
   low = omega arith;
   same =
       let z : length row - 0 ≡ length row = omega arith in
-      ap (λ (k : ℕ). mixed_run (part_at (row_of row)) (path_tokens k (pieces 9 0 line))) z
-      ∙ ap (λ (ts : List (List ℕ)). mixed_run (part_at (row_of row)) (path_tokens (length row) ts)) (all_pieces 9 line);
+      ap (λ (k : ℕ). mixed_run (part_at (row_of row)) (path_tokens k (pieces 9 0 Line))) z
+      ∙ ap (λ (ts : List (List ℕ)). mixed_run (part_at (row_of row)) (path_tokens (length row) ts)) (all_pieces 9 Line);
 }
 
 pub begin_low : {begin i b : ℕ} (joined : Bool) → begin ≤ i → b ≡ cond joined begin i → b ≤ i
@@ -125,8 +126,8 @@ begin_is None i = refl
 begin_is (Some b) i = refl
 
 -- the run that stands to the left of the next column
-pub runs_kept : {line row : List ℕ} {from i b : ℕ} (join : Bool) {run : Std.Option ℕ} → run ≡ then_some join b → RunsLeft line row from join b i →
-    RunsLeft line row from (is_some run) (unwrap_or run 0) i
+pub runs_kept : {Line row : List ℕ} {from i b : ℕ} (join : Bool) {run : Std.Option ℕ} → run ≡ then_some join b → RunsLeft Line row from join b i →
+    RunsLeft Line row from (is_some run) (unwrap_or run 0) i
 runs_kept true e inv = rw e inv
 runs_kept false e inv = rw e (record { high = inv.high; low = omega arith; same = inv.same })
 
@@ -134,22 +135,22 @@ part_of_cell : (row : List ℕ) (i : ℕ) → i < length row → part_at (row_of
 unfolding part_at
 part_of_cell row i h = ap part_of (cell_at row i h)
 
-module _ {line row : List ℕ} {from : ℕ} {joined : Bool} {begin i : ℕ} (inv : RunsLeft line row from joined begin i) (h : i < length row)
-    {t : PathToken} {from' : ℕ} (a : Ahead line from (length row - i) t from') {join : Bool} (j : join ≡ is_join t) {b : ℕ} (e : b ≡ cond joined begin i) where
-  tokens : path_tokens (length row - i) (pieces 9 from line) ≡ t ∷ path_tokens (length row - (i + 1)) (pieces 9 from' line)
+module _ {Line row : List ℕ} {from : ℕ} {joined : Bool} {begin i : ℕ} (inv : RunsLeft Line row from joined begin i) (h : i < length row)
+    {t : PathToken} {from' : ℕ} (a : Ahead Line from (length row - i) t from') {join : Bool} (j : join ≡ is_join t) {b : ℕ} (e : b ≡ cond joined begin i) where
+  tokens : path_tokens (length row - i) (pieces 9 from Line) ≡ t ∷ path_tokens (length row - (i + 1)) (pieces 9 from' Line)
   unfolding at_hand
-  tokens = let z : length row - i ≡ suc (length row - (i + 1)) = omega arith in a.same ∙ ap (λ (k : ℕ). at_hand k t (pieces 9 from' line)) z
+  tokens = let z : length row - i ≡ suc (length row - (i + 1)) = omega arith in a.same ∙ ap (λ (k : ℕ). at_hand k t (pieces 9 from' Line)) z
 
   abbrev pub strays_here : Bool
   strays_here = stray join (get_or row b 0) (get_or row i 0)
 
   abbrev rest : List PathToken
-  rest = path_tokens (length row - (i + 1)) (pieces 9 from' line)
+  rest = path_tokens (length row - (i + 1)) (pieces 9 from' Line)
 
   abbrev origin : ℕ → Option ℕ
   origin = part_at (row_of row)
 
-  turned : mixed_run origin (record_tokens (length row) line) ≡ cond strays_here (some b) (resume origin join b (i + 1) rest)
+  turned : mixed_run origin (record_tokens (length row) Line) ≡ cond strays_here (some b) (resume origin join b (i + 1) rest)
   turned =
       sym inv.same ∙ ap (resume origin joined begin i) tokens ∙ turn origin joined begin i t rest
       ∙ ap₂ (λ (x : Bool) (y : ℕ). cond (x && not (same_origin (origin y) (origin i))) (some y) (resume origin x y (suc i) rest)) (sym j) (sym e)
@@ -157,20 +158,20 @@ module _ {line row : List ℕ} {from : ℕ} {joined : Bool} {begin i : ℕ} (inv
       (part_of_cell row b (omega (arith, begin_low joined inv.low e))) (part_of_cell row i h)
       ∙ ap (λ (k : ℕ). cond strays_here (some b) (resume origin join b k rest)) (sym (add-one i))
 
-  pub runs_turn : strays_here ≡ false → RunsLeft line row from' join b (i + 1)
+  pub runs_turn : strays_here ≡ false → RunsLeft Line row from' join b (i + 1)
   runs_turn n = record {
     high = omega arith;
     low = omega (arith, begin_low joined inv.low e);
     same = sym (turned ∙ ap (λ (x : Bool). cond x (some b) (resume origin join b (i + 1) rest)) n);
   }
 
-  pub runs_found : strays_here ≡ true → (o : Outcome) → mixed (b + 1) ≡ unmixed (mixed_run origin (record_tokens (length row) line)) o
+  pub runs_found : strays_here ≡ true → (o : Outcome) → mixed (b + 1) ≡ unmixed (mixed_run origin (record_tokens (length row) Line)) o
   runs_found y o = sym (ap (λ (m : Option ℕ). unmixed m o) (turned ∙ ap (λ (x : Bool). cond x (some b) (resume origin join b (i + 1) rest)) y))
 
-pub runs_past : {line row : List ℕ} {from : ℕ} {joined : Bool} {begin i : ℕ} → RunsLeft line row from joined begin i → length row ≤ i
-    → (o : Outcome) → o ≡ unmixed (mixed_run (part_at (row_of row)) (record_tokens (length row) line)) o
+pub runs_past : {Line row : List ℕ} {from : ℕ} {joined : Bool} {begin i : ℕ} → RunsLeft Line row from joined begin i → length row ≤ i
+    → (o : Outcome) → o ≡ unmixed (mixed_run (part_at (row_of row)) (record_tokens (length row) Line)) o
 unfolding path_tokens strays mixed_from
-runs_past {line} {row} {from} {joined} {begin} {i} inv h o = sym (ap (λ (m : Option ℕ). unmixed m o) (sym inv.same ∙ ap (λ (k : ℕ). resume (part_at (row_of row)) joined begin i (path_tokens k (pieces 9 from line))) z ∙ go joined))
+runs_past {Line} {row} {from} {joined} {begin} {i} inv h o = sym (ap (λ (m : Option ℕ). unmixed m o) (sym inv.same ∙ ap (λ (k : ℕ). resume (part_at (row_of row)) joined begin i (path_tokens k (pieces 9 from Line))) z ∙ go joined))
   where
     z : length row - i ≡ 0
     z = omega arith

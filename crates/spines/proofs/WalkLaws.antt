@@ -12,7 +12,8 @@ use Rattle.lines.proofs.PieceLaws.{Piece}
 use Rattle.paths.specs.declared.PathToken.{PathToken}
 use Rattle.paths.specs.declared.PathToken.TheVariants.{Split, Join, Exchange, End, Add, Other}
 use Rattle.paths.specs.Token.{path_token, is_exchange}
-use Rattle.paths.specs.Row.{Spine, next_row}
+use Rattle.paths.specs.Row.{next_row}
+use Rattle.paths.specs.declared.Spine.{Spine}
 use Rattle.paths.specs.Walk.{Mode, alone, act, after, emit, starts_exchange, walk}
 use Rattle.paths.proofs.WalkLaws.{next_walk}
 use Rattle.spines.specs.Cells.{spine_of, row_of}

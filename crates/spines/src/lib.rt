@@ -5,13 +5,29 @@ ghost use Rattle.std.specs.Prelude.{◌≡◌, min, ◌*◌, ◌≤◌, ◌<◌,
 ghost use Rattle.paths.specs.Joins.{mixed_run};
 ghost use Rattle.paths.specs.Row.{part_at, next_row};
 ghost use Rattle.paths.specs.Voices.{Outcome, unmixed};
-ghost use Rattle.spines.specs.Cells.{row_of};
+ghost use Rattle.spines.specs.Cells.{spine_of, row_of};
 ghost use Rattle.spines.specs.Runs.{runs_of};
 ghost use Rattle.spines.specs.Table.{active_at, cell_of};
 ghost use Rattle.spines.specs.Tokens.{record_tokens, Ahead};
 ghost use Rattle.spines.specs.Emit.{mode_of, Emitted};
 
-use paths::PathToken;
+use paths::{PathToken, Spine};
+
+// The spine of a cell.
+pub fn spine_of(cell: u16) -> Spine
+    ensures { result ≡ spine_of cell }
+{
+    let place = usize::from(cell / 8);
+    let voice = usize::from(cell % 8);
+    if place == 0 {
+        return Spine::Outside;
+    }
+    let part = place - 1;
+    if voice < 4 {
+        return Spine::Line { part, voice };
+    }
+    Spine::Branch { part }
+}
 
 // What stands to the left of a column: nothing that matters, a `*v`, or the left one of two that exchange.
 #[derive(Clone, Copy, Debug, PartialEq, Eq)]

@@ -15,7 +15,7 @@ use Rattle.lines.specs.Tokens.{tokens_of, is_kern}
 use Rattle.lines.specs.declared.Kind.{Kind}
 use Rattle.lines.specs.declared.Kind.TheVariants.{Star}
 use Rattle.lines.proofs.PieceLaws.{Piece, piece_at_lem}
-use Rattle.paths.specs.Row.{Spine}
+use Rattle.paths.specs.declared.Spine.{Spine}
 use Rattle.paths.specs.Text.{header_row}
 use Rattle.paths.specs.Voices.{step_row}
 use Rattle.spines.specs.Cells.{row_of}

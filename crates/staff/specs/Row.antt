@@ -5,7 +5,7 @@ use Rattle.lines.specs.Lines.{lines_of, without_crs, kind_of}
 use Rattle.lines.specs.Tokens.{tokens_of, is_kern}
 use Rattle.lines.specs.declared.Kind.{Kind}
 use Rattle.lines.specs.declared.Kind.TheVariants.{Empty, Reference, Comment, Star, Bar, Data}
-use Rattle.paths.specs.Row.{Spine}
+use Rattle.paths.specs.declared.Spine.{Spine}
 use Rattle.paths.specs.Text.{header_row}
 use Rattle.paths.specs.Voices.{Outcome, next, mixed, voiceless, wide, step_row}
 use Rattle.spines.specs.Cells.{row_of}

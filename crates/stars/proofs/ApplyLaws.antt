@@ -19,7 +19,8 @@ use Rattle.std.proofs.Common.{Ok, Err}
 use Rattle.paths.specs.declared.PathToken.{PathToken}
 use Rattle.paths.specs.declared.PathToken.TheVariants.{Exchange}
 use Rattle.paths.specs.Token.{path_token}
-use Rattle.paths.specs.Row.{Spine, line}
+use Rattle.paths.specs.declared.Spine.{Spine}
+use Rattle.paths.specs.declared.Spine.TheVariants.{Line}
 use Rattle.sheet.specs.Record.{span_of}
 use Rattle.sheet.specs.declared.Span.{Span}
 use Rattle.spines.specs.Cells.{spine_of}
@@ -101,7 +102,7 @@ module _ (bytes : List ℕ) (p k j at : ℕ) (d : Part) (parts : List Part) (tal
   part_is = part_in tally.parts p d (fresh_part p) parts low top
 
   heeded_is : (cells : List ℕ) → heeded says k j (token_of at bytes) p (part_at (state_of cells parts tally) p) (state_of cells parts tally)
-      ≡ interpret (line p 0) k j (token_of at bytes) (state_of cells parts tally)
+      ≡ interpret (Line p 0) k j (token_of at bytes) (state_of cells parts tally)
   heeded_is cells =
       ap (λ (x : Says). heeded x k j (token_of at bytes) p (part_at (state_of cells parts tally) p) (state_of cells parts tally))
       (w ∙ ap (λ (x : Part). interpretation_of bytes x.noted) part_is)
@@ -110,7 +111,7 @@ module _ (bytes : List ℕ) (p k j at : ℕ) (d : Part) (parts : List Part) (tal
   pub apply_comes : {q : Part} {out : List ℕ} {t : Tally} {what : Interpretation} → says ≡ Ok what
       → q ≡ changed what (span_of (at + 3) (length bytes - 3)) (get_or parts p d)
       → t ≡ tempoed what tally
-      → Comes (interpret (line p 0) k j (token_of at bytes)) parts out tally (set parts p q) out t
+      → Comes (interpret (Line p 0) k j (token_of at bytes)) parts out tally (set parts p q) out t
   apply_comes {q} {out} {t} {what} o c f =
       let changes : take tally.parts (set parts p q) ≡ set (take tally.parts parts) p (changed what (span_of (at + 3) (length bytes - 3)) (get_or (take tally.parts parts) p (fresh_part p)))
       = take-set-lt tally.parts parts p q low
@@ -126,7 +127,7 @@ module _ (bytes : List ℕ) (p k j at : ℕ) (d : Part) (parts : List Part) (tal
 
   pub notice_comes : {out out' : List ℕ} {r : Tally} {why : Unsupported} {number : ℕ} → says ≡ Err why → number ≡ notice_number why
       → (out' ≡ laid out tally.at (kept_records tally (notice_of number k j (span_of at (length bytes))) [])) × (r ≡ after_kept tally (notice_of number k j (span_of at (length bytes))) [])
-      → Comes (interpret (line p 0) k j (token_of at bytes)) parts out tally parts out' r
+      → Comes (interpret (Line p 0) k j (token_of at bytes)) parts out tally parts out' r
   notice_comes {out} {out'} {r} {why} {number} o e q =
       let noticed = comes_notice {f = notify number k j (span_of at (length bytes))} number k j (span_of at (length bytes)) q (λ (st : State). refl) in
       record {
@@ -148,7 +149,7 @@ module _ (cell k j : ℕ) (tok : Token) where
   in_branch h v = comes_quiet (λ (st : State). ap (λ (s : Spine). interpret s k j tok st) (cell_branch cell (cell / 8 - 1) (omega arith) (omega arith)))
 
   pub in_line : {parts : List Part} {out : List ℕ} {parts' : List Part} {out' : List ℕ} {t r : Tally} → 8 ≤ cell → cell % 8 ≤ 3
-      → Comes (interpret (line (cell / 8 - 1) 0) k j tok) parts out t parts' out' r → Comes (interpret (spine_of cell) k j tok) parts out t parts' out' r
+      → Comes (interpret (Line (cell / 8 - 1) 0) k j tok) parts out t parts' out' r → Comes (interpret (spine_of cell) k j tok) parts out t parts' out' r
   in_line h v = comes_as (λ (st : State). ap (λ (s : Spine). interpret s k j tok st) (cell_line cell (cell / 8 - 1) (omega arith) (omega arith)))
 
 -- the part of a line's cell

@@ -21,7 +21,8 @@ use Rattle.paths.specs.declared.PathToken.{PathToken}
 use Rattle.paths.specs.declared.PathToken.TheVariants.{Other}
 use Rattle.paths.specs.Token.{path_token, is_exchange}
 use Rattle.paths.specs.Trace.{token_at, exchanges_right, exchanges_left}
-use Rattle.paths.specs.Row.{Spine, line, branch, outside}
+use Rattle.paths.specs.declared.Spine.{Spine}
+use Rattle.paths.specs.declared.Spine.TheVariants.{Line, Branch, Outside}
 use Rattle.spines.specs.Cells.{spine_of, row_of}
 use Rattle.spines.specs.Tokens.{path_tokens}
 use Rattle.spines.proofs.CellLaws.{cell_at, row_drop, row_none}
@@ -68,9 +69,9 @@ path_filled (suc n) (t ∷ ts) = ap (map path_token) (fill_cons n t ts) ∙ ap (
 
 star_interpret : (s : Spine) (k j at : ℕ) (st : State) → interpret s k j (token_of at (ascii "*")) st ≡ quiet st
 unfolding interpretation_of
-star_interpret (line p v) k j at st = refl
-star_interpret (branch p) k j at st = refl
-star_interpret outside k j at st = refl
+star_interpret (Line p v) k j at st = refl
+star_interpret (Branch p) k j at st = refl
+star_interpret Outside k j at st = refl
 
 star_quiet : (b : Bool) (s : Spine) (k j at : ℕ) (st : State) → column_by (path_token (ascii "*")) b s k j (token_of at (ascii "*")) st ≡ quiet st
 star_quiet b s k j at st =

@@ -7,7 +7,7 @@ use lib.ListN.{length, take}
 use Rattle.lines.specs.Tokens.{tokens_of}
 use Rattle.paths.specs.declared.PathToken.{PathToken}
 use Rattle.paths.specs.Token.{path_token}
-use Rattle.paths.specs.Row.{Spine}
+use Rattle.paths.specs.declared.Spine.{Spine}
 use Rattle.paths.specs.Voices.{Outcome, step_row}
 use Rattle.spines.specs.Cells.{row_of}
 use Rattle.spines.specs.Tokens.{record_tokens}

@@ -3,7 +3,7 @@ use Rattle.std.specs.Prelude.{◌≡◌, ℕ, ◌+◌, ◌-◌, ◌≤◌, ◌<�
 use Rattle.slices.specs.Ascii.{ascii}
 use Rattle.state.specs.Counts.{Same}
 use Rattle.lines.specs.Tokens.{tokens_of}
-use Rattle.paths.specs.Row.{line}
+use Rattle.paths.specs.declared.Spine.TheVariants.{Line}
 use Rattle.paths.specs.Token.{path_token}
 use Rattle.interpretation.specs.declared.Interpretation.{Interpretation}
 use Rattle.interpretation.specs.declared.Interpretation.TheVariants.{Tempo}
@@ -55,5 +55,5 @@ pub record Comes (f : State → Result) (parts : List Part) (out : List ℕ) (t 
 -- what keeps the numbers of a column small
 pub record Fit (cell : ℕ) (token : List ℕ) (t : Tally) (offset : ℕ) : Type 0 where
   pub parts_few : t.parts ≤ 256
-  pub within : (p v : ℕ) → spine_of cell ≡ line p v → p < t.parts
+  pub within : (p v : ℕ) → spine_of cell ≡ Line p v → p < t.parts
   pub small : offset + length token < 2 ^ 27

@@ -5,7 +5,7 @@ ghost use Rattle.std.specs.Prelude.{◌≡◌, ◌&&◌, not, ℕ, ◌+◌, ◌-
 ghost use Rattle.slices.specs.Split.{pieces};
 ghost use Rattle.lines.specs.Lines.{piece_end};
 ghost use Rattle.lines.specs.Tokens.{tokens_of};
-ghost use Rattle.paths.specs.Row.{line};
+ghost use Rattle.paths.specs.declared.Spine.TheVariants.{Line};
 ghost use Rattle.paths.specs.Token.{path_token, is_exchange};
 ghost use Rattle.paths.specs.Trace.{token_at};
 ghost use Rattle.spines.specs.Cells.{spine_of};
@@ -65,7 +65,7 @@ fn apply(
     out: &mut [u8],
 ) -> Tally
     requires { (p < tally.parts) × ((tally.parts ≤ 256) × (offset + length token.now < 2 ^ 27)) }
-    ensures { Comes (interpret (line p 0) number column (token_of offset token.now)) parts.old out.old tally parts.new out.new result }
+    ensures { Comes (interpret (Line p 0) number column (token_of offset token.now)) parts.old out.old tally parts.new out.new result }
 {
     let len = token.len() as u32;
     match interpretation::interpret(token, parts[p].noted) {

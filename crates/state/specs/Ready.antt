@@ -1,6 +1,8 @@
 -- What keeps the numbers of a reading small.
 use Rattle.std.specs.Prelude.{◌≡◌, ℕ, ◌<◌, ◌≤◌, List, length, Result, Ok, Err}
-use Rattle.paths.specs.Row.{Spine, line, spine_at}
+use Rattle.paths.specs.Row.{spine_at}
+use Rattle.paths.specs.declared.Spine.{Spine}
+use Rattle.paths.specs.declared.Spine.TheVariants.{Line}
 use Rattle.spines.specs.Cells.{row_of}
 use Rattle.reading.specs.State.{State}
 use Rattle.state.specs.declared.Tally.{Tally}
@@ -10,7 +12,7 @@ use Rattle.refusal.specs.declared.Refusal.{Refusal}
 
 -- every kern line of the row is of one of n parts
 abbrev pub Within : List Spine → ℕ → Type 0
-Within row n = (j p v : ℕ) → spine_at row j ≡ line p v → p < n
+Within row n = (j p v : ℕ) → spine_at row j ≡ Line p v → p < n
 
 -- of the active spines' cells and the counts
 pub record Ready (cells : List ℕ) (t : Tally) : Type 0 where

@@ -21,7 +21,8 @@ use Rattle.std.specs.Prelude.{Some, None, Ok, Err}
 use Rattle.paths.specs.declared.PathToken.{PathToken}
 use Rattle.paths.specs.declared.PathToken.TheVariants.{Split, Join, Exchange, End, Add, Other}
 use Rattle.paths.specs.Token.{path_token}
-use Rattle.paths.specs.Row.{Spine, line, branch, outside}
+use Rattle.paths.specs.declared.Spine.{Spine}
+use Rattle.paths.specs.declared.Spine.TheVariants.{Line, Branch, Outside}
 use Rattle.sheet.specs.Record.{NOTICE}
 use Rattle.sheet.specs.declared.Notice.{Notice as Told}
 use Rattle.sheet.specs.declared.Span.{Span}
@@ -102,9 +103,9 @@ heeded_is (Ok what) k j t p st h = applied_is what t p st h
 heeded_is (Err why) k j t p st h = notify_is (unsupported_number why) k j (span_of_token t) st h
 
 interpret_is : {row : List Spine} {n : ℕ} (s : Spine) (k j : ℕ) (t : Token) (st : State) → Is row n st → Is row n (interpret s k j t st).state
-interpret_is (line p v) k j t st h = heeded_is (interpretation_of t.bytes (part_at st p).noted) k j t p st h
-interpret_is (branch p) k j t st h = h
-interpret_is outside k j t st h = h
+interpret_is (Line p v) k j t st h = heeded_is (interpretation_of t.bytes (part_at st p).noted) k j t p st h
+interpret_is (Branch p) k j t st h = h
+interpret_is Outside k j t st h = h
 
 column_is : {row : List Spine} {n : ℕ} (x : PathToken) (two : Bool) (s : Spine) (k j : ℕ) (t : Token) (st : State) → Is row n st
     → Is row n (column_by x two s k j t st).state
@@ -193,9 +194,9 @@ token_is {row} {n} all kern p v k i t st h =
 
 spine_is : {row : List Spine} {n : ℕ} (s : Spine) (all : List (List ℕ)) (kern : List Bool) (k i : ℕ) (t : Token) (st : State) → Is row n st
     → IsStep row n (read_spine s all kern k i t st)
-spine_is (line p v) all kern k i t st h = token_is all kern p v k i t st h
-spine_is (branch p) all kern k i t st h = h
-spine_is outside all kern k i t st h = h
+spine_is (Line p v) all kern k i t st h = token_is all kern p v k i t st h
+spine_is (Branch p) all kern k i t st h = h
+spine_is Outside all kern k i t st h = h
 
 tokens_are : {row : List Spine} {n : ℕ} (all : List (List ℕ)) (kern : List Bool) (k i : ℕ) (left : List Spine) (ts : List Token) (st : State) → Is row n st
     → IsStep row n (read_tokens all kern k i left ts st)

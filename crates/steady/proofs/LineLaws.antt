@@ -17,7 +17,7 @@ use Rattle.std.specs.Option.{option_map_or}
 use Rattle.repair.specs.Repair.{each, repaired, Repaired, repaired_of, repair_notice}
 use Rattle.repair.specs.declared.Repair.{Repair}
 use Rattle.repair.specs.declared.Unrepaired.TheVariants.{Uneven, Mixed}
-use Rattle.paths.specs.Row.{Spine}
+use Rattle.paths.specs.declared.Spine.{Spine}
 use Rattle.paths.specs.Text.{header_row}
 use Rattle.paths.specs.Token.{path_token}
 use Rattle.paths.specs.Voices.{Outcome, next, mixed, voiceless, wide, step_row}

@@ -12,7 +12,9 @@ use Rattle.paths.specs.declared.PathToken.{PathToken}
 use Rattle.paths.specs.declared.PathToken.TheVariants.{Split, Join, Exchange, End, Add, Other}
 use Rattle.paths.specs.Token.{is_exchange, is_join}
 use Rattle.paths.specs.Joins.{mixed_run}
-use Rattle.paths.specs.Row.{Spine, line, branch, outside, branch_from, part_at, advance, next_row}
+use Rattle.paths.specs.Row.{branch_from, part_at, advance, next_row}
+use Rattle.paths.specs.declared.Spine.{Spine}
+use Rattle.paths.specs.declared.Spine.TheVariants.{Line, Branch, Outside}
 use Rattle.paths.specs.Text.{header_from}
 use Rattle.paths.specs.Voices.{Outcome, next, mixed, voiceless, wide, ahead, settle, lowest, holds, with_voice, give_voices, voice_row, narrow, step_row}
 use Rattle.paths.proofs.StepLaws.{unmixed_holds}
@@ -21,9 +23,9 @@ use Rattle.state.specs.Ready.{Within}
 use Rattle.extent.proofs.StateLaws.{either}
 
 abbrev pub InPart : ℕ → Spine → Type 0
-InPart n (line p v) = p < n
-InPart n (branch p) = p < n
-InPart n outside = Unit {0}
+InPart n (Line p v) = p < n
+InPart n (Branch p) = p < n
+InPart n Outside = Unit {0}
 
 -- every spine of the row is of one of n parts, or outside kern
 abbrev pub Inside : ℕ → List Spine → Type 0
@@ -34,11 +36,11 @@ Inside n (s ∷ row) = InPart n s × Inside n row
 abbrev pub Firm : List Spine → ℕ → Type 0
 Firm row n = (length row ≤ 256) × Inside n row
 
-spine_in : (n : ℕ) (s : Spine) → InPart n s → (p v : ℕ) → s ≡ line p v → p < n
+spine_in : (n : ℕ) (s : Spine) → InPart n s → (p v : ℕ) → s ≡ Line p v → p < n
 spine_in n s h p v e = subst (λ (x : Spine). InPart n x) e h
 
 pub inside_within : (n : ℕ) (row : List Spine) → Inside n row → Within row n
-inside_within n [] h j p v e = spine_in n outside tt p v e
+inside_within n [] h j p v e = spine_in n Outside tt p v e
 inside_within n (s ∷ row) h zero p v e = spine_in n s h.0 p v e
 inside_within n (s ∷ row) h (suc j) p v e = inside_within n row h.1 j p v e
 
@@ -52,9 +54,9 @@ header_in n p (false ∷ ks) h = (tt, header_in n p ks h)
 -- ---- a star record's row
 branch_in : (n : ℕ) (s : Spine) → InPart n s → InPart n (branch_from s)
 unfolding branch_from
-branch_in n (line p v) h = h
-branch_in n (branch p) h = h
-branch_in n outside h = tt
+branch_in n (Line p v) h = h
+branch_in n (Branch p) h = h
+branch_in n Outside h = tt
 
 next_in : (n : ℕ) (ts : List PathToken) (row : List Spine) → Inside n row → Inside n (next_row ts row)
 unfolding advance
@@ -89,14 +91,14 @@ ahead_in n s (wide m) h g = tt
 
 settle_in : (n p : ℕ) (rest : ℕ → Outcome) (o : Option ℕ) → p < n → ((v : ℕ) → OutcomeIn n (rest v)) → OutcomeIn n (settle p rest o)
 settle_in n p rest none h g = tt
-settle_in n p rest (some v) h g = ahead_in n (line p v) (rest v) h (g v)
+settle_in n p rest (some v) h g = ahead_in n (Line p v) (rest v) h (g v)
 
 give_in : (n : ℕ) (held : ℕ → ℕ → Bool) (row : List Spine) → Inside n row → OutcomeIn n (give_voices held row)
 unfolding give_voices
 give_in n held [] h = tt
-give_in n held (line p v ∷ row) h = ahead_in n (line p v) (give_voices held row) h.0 (give_in n held row h.1)
-give_in n held (outside ∷ row) h = ahead_in n outside (give_voices held row) tt (give_in n held row h.1)
-give_in n held (branch p ∷ row) h =
+give_in n held (Line p v ∷ row) h = ahead_in n (Line p v) (give_voices held row) h.0 (give_in n held row h.1)
+give_in n held (Outside ∷ row) h = ahead_in n Outside (give_voices held row) tt (give_in n held row h.1)
+give_in n held (Branch p ∷ row) h =
     settle_in n p (λ (v : ℕ). give_voices (with_voice p v held) row) (lowest (held p)) h.0 (λ (v : ℕ). give_in n (with_voice p v held) row h.1)
 
 abbrev pub OutcomeFirm : ℕ → Outcome → Type 0

@@ -11,7 +11,8 @@ use lib.Dec.{eqb}
 use lib.ListN.{length, get_or, take, drop, set, length-set, drop_of_length-le, take-append-drop}
 use lib.Seq.{get_or-set_same, get_or-set_other, take_all, take-suc-set, drop-set-lt}
 use Rattle.paths.proofs.LoopLaws.{or_swap}
-use Rattle.paths.specs.Row.{Spine, line, branch, outside}
+use Rattle.paths.specs.declared.Spine.{Spine}
+use Rattle.paths.specs.declared.Spine.TheVariants.{Line, Branch, Outside}
 use Rattle.paths.specs.Voices.{holds, lowest, with_voice, Outcome, next, voiceless, ahead, settle, give_voices, voice_row}
 use Rattle.paths.proofs.LoopLaws.{give_agrees, lowest_agrees, behind, behind_next, behind_voiceless, behind_snoc}
 use Rattle.spines.specs.Cells.{spine_of, row_of, is_branch}
@@ -21,22 +22,22 @@ use Rattle.voices.proofs.MaskLaws.{lowest_low, account_parts, account_voice, acc
 
 give_settled : (held : ℕ → ℕ → Bool) (s : Spine) (row : List Spine) → is_branch s ≡ false → give_voices held (s ∷ row) ≡ ahead s (give_voices held row)
 unfolding give_voices
-give_settled held (line p v) row e = refl
-give_settled held outside row e = refl
-give_settled held (branch p) row e = cc
+give_settled held (Line p v) row e = refl
+give_settled held Outside row e = refl
+give_settled held (Branch p) row e = cc
 
-give_branch : (held : ℕ → ℕ → Bool) (p : ℕ) (row : List Spine) → give_voices held (branch p ∷ row) ≡ settle p (λ v. give_voices (with_voice p v held) row) (lowest (held p))
+give_branch : (held : ℕ → ℕ → Bool) (p : ℕ) (row : List Spine) → give_voices held (Branch p ∷ row) ≡ settle p (λ v. give_voices (with_voice p v held) row) (lowest (held p))
 unfolding give_voices
 give_branch held p row = refl
 
 -- a branch becomes a line
-holds_put : (done row : List Spine) (p v q w : ℕ) → with_voice p v (holds (done ++ (branch p ∷ row))) q w ≡ holds (done ++ (line p v ∷ row)) q w
+holds_put : (done row : List Spine) (p v q w : ℕ) → with_voice p v (holds (done ++ (Branch p ∷ row))) q w ≡ holds (done ++ (Line p v ∷ row)) q w
 unfolding holds with_voice
 holds_put [] row p v q w = refl
-holds_put (line a b ∷ done) row p v q w =
-    or_swap (eqb q p && eqb w v) (eqb q a && eqb w b) (holds (done ++ (branch p ∷ row)) q w) ∙ ap (λ (h : Bool). (eqb q a && eqb w b) || h) (holds_put done row p v q w)
-holds_put (branch a ∷ done) row p v q w = holds_put done row p v q w
-holds_put (outside ∷ done) row p v q w = holds_put done row p v q w
+holds_put (Line a b ∷ done) row p v q w =
+    or_swap (eqb q p && eqb w v) (eqb q a && eqb w b) (holds (done ++ (Branch p ∷ row)) q w) ∙ ap (λ (h : Bool). (eqb q a && eqb w b) || h) (holds_put done row p v q w)
+holds_put (Branch a ∷ done) row p v q w = holds_put done row p v q w
+holds_put (Outside ∷ done) row p v q w = holds_put done row p v q w
 
 pub record Giving (cells₀ cells masks : List ℕ) (size i : ℕ) : Type 0 where
   pub high : i ≤ length cells
@@ -113,19 +114,19 @@ module _ {cells₀ cells masks : List ℕ} {size i : ℕ} (inv : Giving cells₀
       low : v < 4
       low = lowest_low (bit m) v free
 
-      cell : spine_of n ≡ line (part_at cells i) v
+      cell : spine_of n ≡ Line (part_at cells i) v
       cell =
           let q : n / 8 ≡ part_at cells i + 1 = omega (arith, low, part) in
           let r : n % 8 ≡ v = omega (arith, low) in
           let l : n % 8 < 4 = omega (arith, low) in
-          cell_line n (part_at cells i) q l ∙ ap (line (part_at cells i)) r
+          cell_line n (part_at cells i) q l ∙ ap (Line (part_at cells i)) r
 
-      before : row_of cells ≡ done_at cells i ++ (branch (part_at cells i) ∷ rest_at cells i)
+      before : row_of cells ≡ done_at cells i ++ (Branch (part_at cells i) ∷ rest_at cells i)
       before =
           ap row_of (sym (take-append-drop i cells)) ∙ row_append (take i cells) (drop i cells)
           ∙ ap (λ (r : List Spine). done_at cells i ++ r) (row_drop cells i h ∙ ap (λ (s : Spine). s ∷ rest_at cells i) (branch_spine (cell_at cells i) b))
 
-      taken : row_of (take (i + 1) (set cells i n)) ≡ done_at cells i ++ (line (part_at cells i) v ∷ [])
+      taken : row_of (take (i + 1) (set cells i n)) ≡ done_at cells i ++ (Line (part_at cells i) v ∷ [])
       unfolding row_of
       taken =
           ap row_of (ap (λ (k : ℕ). take k (set cells i n)) (add-one i) ∙ take-suc-set cells i n h) ∙ row_append (take i cells) (n ∷ [])
@@ -134,10 +135,10 @@ module _ {cells₀ cells masks : List ℕ} {size i : ℕ} (inv : Giving cells₀
       dropped : drop (i + 1) (set cells i n) ≡ drop (i + 1) cells
       dropped = drop-set-lt (i + 1) cells i n (omega arith)
 
-      afterwards : row_of (set cells i n) ≡ done_at cells i ++ (line (part_at cells i) v ∷ rest_at cells i)
+      afterwards : row_of (set cells i n) ≡ done_at cells i ++ (Line (part_at cells i) v ∷ rest_at cells i)
       afterwards =
           ap row_of (sym (take-append-drop (i + 1) (set cells i n))) ∙ row_append (take (i + 1) (set cells i n)) (drop (i + 1) (set cells i n))
-          ∙ ap₂ (λ (x y : List Spine). x ++ y) taken (ap row_of dropped) ∙ append_assoc (done_at cells i) (line (part_at cells i) v ∷ []) (rest_at cells i)
+          ∙ ap₂ (λ (x y : List Spine). x ++ y) taken (ap row_of dropped) ∙ append_assoc (done_at cells i) (Line (part_at cells i) v ∷ []) (rest_at cells i)
 
       holds_now : (q w : ℕ) → with_voice (part_at cells i) v (holds (row_of cells)) q w ≡ holds (row_of (set cells i n)) q w
       holds_now q w =
@@ -162,7 +163,7 @@ module _ {cells₀ cells masks : List ℕ} {size i : ℕ} (inv : Giving cells₀
         masked = simp length-set inv.masked;
         account = rw (ke, part) (account_parts (account_by (account_voice (part_at cells i) inv.account (omega (arith, inv.masked, part)) told') holds_now) (simp length-set) parts);
         same = found m at ∙ ap (λ (o : Option ℕ). behind (done_at cells i) (settle (part_at cells i) (give_on cells i) o)) (sym free)
-            ∙ behind_snoc (done_at cells i) (line (part_at cells i) v) (give_on cells i v)
+            ∙ behind_snoc (done_at cells i) (Line (part_at cells i) v) (give_on cells i v)
             ∙ ap₂ behind (sym taken) (give_agrees (with_voice (part_at cells i) v (holds (row_of cells))) (holds (row_of (set cells i n))) (rest_at cells i) (λ q w l. holds_now q w)
             ∙ ap (λ (r : List ℕ). give_voices (holds (row_of (set cells i n))) (row_of r)) (sym dropped));
       }

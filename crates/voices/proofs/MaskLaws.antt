@@ -13,7 +13,8 @@ use lib.Seq.{get_or-set_same, get_or-set_other, take_all}
 use borrow.Author.Tests.{eq-eqb, ne_eqb}
 use Rattle.slices.specs.Finite.{all, below}
 use Rattle.slices.proofs.TestLaws.{clash}
-use Rattle.paths.specs.Row.{Spine, line, branch, outside}
+use Rattle.paths.specs.declared.Spine.{Spine}
+use Rattle.paths.specs.declared.Spine.TheVariants.{Line, Branch, Outside}
 use Rattle.paths.specs.Voices.{holds, lowest, with_voice}
 use Rattle.paths.proofs.LoopLaws.{holds_line, holds_branch, holds_outside}
 use Rattle.spines.specs.Cells.{spine_of, row_of}
@@ -176,10 +177,10 @@ module _ {cells masks : List ℕ} {size i : ℕ} (inv : Marking cells masks size
   marking_pass v = record { high = omega arith; kept = inv.kept; account = account_by inv.account (go (get_or cells i 0 / 8) refl) }
     where
       go : (q : ℕ) → get_or cells i 0 / 8 ≡ q → (p w : ℕ) → holds (row_of (take i cells)) p w ≡ holds (row_of (take (i + 1) cells)) p w
-      go zero e p w = sym (holds_outside (row_of (take i cells)) p w) ∙ more outside (cell_outside (get_or cells i 0) e) p w
+      go zero e p w = sym (holds_outside (row_of (take i cells)) p w) ∙ more Outside (cell_outside (get_or cells i 0) e) p w
       go (suc r) e p w =
           let part : get_or cells i 0 / 8 ≡ r + 1 = omega arith in
-          sym (holds_branch (row_of (take i cells)) r p w) ∙ more (branch r) (cell_branch (get_or cells i 0) r part v) p w
+          sym (holds_branch (row_of (take i cells)) r p w) ∙ more (Branch r) (cell_branch (get_or cells i 0) r part v) p w
 
   pub marking_line : {q v m : ℕ} → v ≡ get_or cells i 0 % 8 → v < 4 → q ≡ get_or cells i 0 / 8 → q < size →
       WithVoice (get_or masks q 0) v m → Marking cells (set masks q m) size (i + 1)
@@ -188,12 +189,12 @@ module _ {cells masks : List ℕ} {size i : ℕ} (inv : Marking cells masks size
       go : (k : ℕ) → k ≡ get_or cells i 0 / 8 → k < size → WithVoice (get_or masks k 0) v m →
           Account cells (set masks k m) (holds (row_of (take (i + 1) cells)))
       go zero e f told =
-          account_by (account_outside m inv.account) (λ p w. sym (holds_outside (row_of (take i cells)) p w) ∙ more outside (cell_outside (get_or cells i 0) (sym e)) p w)
+          account_by (account_outside m inv.account) (λ p w. sym (holds_outside (row_of (take i cells)) p w) ∙ more Outside (cell_outside (get_or cells i 0) (sym e)) p w)
       go (suc r) e f told =
           let part : get_or cells i 0 / 8 ≡ r + 1 = omega arith in
           let low : get_or cells i 0 % 8 < 4 = omega arith in
-          let is : spine_of (get_or cells i 0) ≡ line r v = cell_line (get_or cells i 0) r part low ∙ ap (line r) (sym ve) in
-          account_by (account_voice r inv.account (omega (arith, inv.kept)) told) (λ p w. sym (holds_line (row_of (take i cells)) r v p w) ∙ more (line r v) is p w)
+          let is : spine_of (get_or cells i 0) ≡ Line r v = cell_line (get_or cells i 0) r part low ∙ ap (Line r) (sym ve) in
+          account_by (account_voice r inv.account (omega (arith, inv.kept)) told) (λ p w. sym (holds_line (row_of (take i cells)) r v p w) ∙ more (Line r v) is p w)
 
 pub marking_past : {cells masks : List ℕ} {size i : ℕ} → Marking cells masks size i → length cells ≤ i → Account cells masks (holds (row_of cells))
 marking_past {cells} {masks} {size} {i} inv h = account_by inv.account (λ p v. ap (λ (l : List ℕ). holds (row_of l) p v) (take_all i cells h))

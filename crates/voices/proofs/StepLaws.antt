@@ -9,7 +9,8 @@ use lib.Seq.{take-suc, take-suc-set, take_all, take_at, length-take-le}
 use borrow.Author.Tests.{le-leb, lt-leb}
 use Rattle.paths.specs.declared.PathToken.{PathToken}
 use Rattle.paths.specs.Joins.{mixed_run}
-use Rattle.paths.specs.Row.{Spine, part_at, next_row}
+use Rattle.paths.specs.Row.{part_at, next_row}
+use Rattle.paths.specs.declared.Spine.{Spine}
 use Rattle.paths.specs.Voices.{Outcome, next, mixed, voiceless, wide, voice_row, narrow, unmixed, step_row}
 use Rattle.spines.specs.Cells.{row_of}
 use Rattle.spines.specs.Runs.{runs_of}
