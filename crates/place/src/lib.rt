@@ -1,13 +1,17 @@
 #![tactic(auto)]
 
-// The reader's place in a text: the offset at which a line begins, and how many lines stand before it.
-ghost use Rattle.std.specs.Prelude.{◌≡◌, ◌+◌, ◌≤◌, ◌<◌, ◌^◌, length};
-ghost use Rattle.lines.specs.Lines.{piece_end};
+// A text and its lines, and the reader's place between them.
+ghost use Rattle.std.specs.Prelude.{◌≡◌, ◌+◌, ◌-◌, ◌≤◌, ◌<◌, ◌^◌, length, take, drop, IfNone, IfSome};
+ghost use Rattle.lines.specs.Lines.{piece_end, without_crs, kind_of};
+ghost use Rattle.place.specs.Taken.{Taken};
 
-#[derive(Clone, Copy, PartialEq, Eq, Debug)]
-pub struct Place {
-    pub at: usize,
-    pub line: u32,
+use lines::Kind;
+
+// A text that is no longer than a text may be.
+#[derive(Clone, Copy, Debug)]
+pub struct Text<'a> {
+    pub bytes: &'a [u8],
+    pub ghost short: { length bytes.now ≤ 67108864 },
 }
 
 // Where the next line begins: behind the next LF from `at` on, or one behind the end of the text.
@@ -16,6 +20,60 @@ pub fn next_line(text: &[u8], at: usize) -> usize
     ensures { result ≡ piece_end 10 text.now at + 1 }
 {
     lines::line_end(text, at) + 1
+}
+
+impl<'a> Text<'a> {
+    // Where the next line begins: behind the next LF from `at` on, or one behind the end of the text.
+    pub fn next_line(self, at: usize) -> usize
+        requires { at ≤ length self.bytes.now }
+        ensures { result ≡ piece_end 10 self.entry.bytes.now at + 1 }
+    {
+        next_line(self.bytes, at)
+    }
+
+    // The bytes from one index to another, without the CRs at their end.
+    pub fn content(self, from: usize, end: usize) -> &'a [u8]
+        requires { (from ≤ end) × (end ≤ length self.bytes.now) }
+        ensures { result.now ≡ without_crs (take (end - from) (drop from self.entry.bytes.now)) }
+    {
+        let line = &self.bytes[from..end];
+        let long = lines::content(line);
+        &line[..long]
+    }
+}
+
+// A line of a text without its trailing CRs: what it begins with, its number from 1, and the offset at which it begins.
+#[derive(Clone, Copy, Debug)]
+pub struct TextLine<'a> {
+    pub bytes: &'a [u8],
+    pub kind: Kind,
+    pub number: u32,
+    pub offset: u32,
+    pub ghost of_kind: { kind ≡ kind_of bytes.now },
+    pub ghost short: { offset + length bytes.now < 2 ^ 27 },
+}
+
+impl<'a> TextLine<'a> {
+    // The line of these bytes.
+    pub fn new(bytes: &'a [u8], number: u32, offset: u32) -> TextLine<'a>
+        requires { offset + length bytes.now < 2 ^ 27 }
+        ensures { (result.bytes.now ≡ bytes.now) × ((result.number ≡ number) × (result.offset ≡ offset)) }
+    {
+        let kind = lines::line_kind(bytes);
+        TextLine {
+            bytes,
+            kind,
+            number,
+            offset,
+        }
+    }
+}
+
+// Where a line begins, and how many lines stand before it.
+#[derive(Clone, Copy, PartialEq, Eq, Debug)]
+pub struct Place {
+    pub at: usize,
+    pub line: u32,
 }
 
 impl Place {
@@ -27,6 +85,21 @@ impl Place {
     {
         self.at = next_line(text, self.at);
         self.line += 1;
+    }
+
+    // The line at the place, which moves past it; None behind the text's last line.
+    pub fn take_line<'a>(&mut self, text: Text<'a>) -> Option<TextLine<'a>>
+        requires { self.old.line < 2 ^ 27 }
+        ensures past { IfNone result ((length text.entry.bytes.now < self.old.at) × (self.new ≡ self.old)) }
+        ensures taken { IfSome result (λ l. Taken text.entry.bytes.now self.old.at self.old.line self.new.at self.new.line l.bytes.now l.number l.offset) }
+    {
+        let Place { at, line } = *self;
+        if text.bytes.len() < at {
+            return None;
+        }
+        self.advance(text.bytes);
+        let bytes = text.content(at, self.at - 1);
+        Some(TextLine::new(bytes, self.line, at as u32))
     }
 }
 

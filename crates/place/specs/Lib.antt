@@ -1,0 +1,2 @@
+-- What is known of a line of a text.
+pub mod Taken
