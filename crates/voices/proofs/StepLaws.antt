@@ -1,17 +1,16 @@
 -- The new row with its voices taken over.
-use mathlib.Core.Path.{◌≡◌, refl, sym, ap, ◌∙◌}
-use Prim.Native.Nat.{ℕ, min, ◌+◌, ◌≤◌, ◌<◌}
+use mathlib.Core.Path.{◌≡◌, sym, ap, ◌∙◌}
+use Prim.Native.Nat.{ℕ, ◌≤◌, ◌<◌}
 use native.Mathlib.Omega.{arith}
-use native.Mathlib.Numerals.{add-one}
 use mathlib.Core.List.{List, ◌++◌}
-use lib.ListN.{length, get_or, take, drop, set, length-set}
-use lib.Seq.{take-suc, take-suc-set, take_all, take_at, length-take-le}
+use lib.ListN.{length, take}
+use lib.Seq.{take_at}
 use borrow.Author.Tests.{le-leb, lt-leb}
 use Rattle.paths.specs.declared.PathToken.{PathToken}
 use Rattle.paths.specs.Joins.{mixed_run}
 use Rattle.paths.specs.Row.{part_at, next_row}
 use Rattle.paths.specs.declared.Spine.{Spine}
-use Rattle.paths.specs.Voices.{Outcome, next, mixed, voiceless, wide, voice_row, narrow, unmixed, step_row}
+use Rattle.paths.specs.Voices.{Outcome, next, mixed, wide, voice_row, narrow, unmixed, step_row}
 use Rattle.spines.specs.Cells.{row_of}
 use Rattle.spines.specs.Runs.{runs_of}
 use Rattle.std.proofs.Common as Std

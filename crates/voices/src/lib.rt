@@ -1,7 +1,7 @@
 #![tactic(auto)]
 
 // Voices for the branches of a row, and what a star record makes of the row.
-ghost use Rattle.std.specs.Prelude.{◌≡◌, min, ◌*◌, ◌/◌, ◌%◌, ◌+◌, ◌≤◌, ◌<◌, length, take};
+ghost use Rattle.std.specs.Prelude.{◌≡◌, min, ◌*◌, ◌/◌, ◌%◌, ◌+◌, ◌≤◌, ◌<◌, length, take, replicate};
 ghost use Rattle.paths.specs.Voices.{holds, lowest, voice_row, narrow, step_row};
 ghost use Rattle.spines.specs.Cells.{spine_of, row_of, is_branch};
 ghost use Rattle.spines.specs.Tokens.{record_tokens};
@@ -149,5 +149,40 @@ pub fn step_row(
             let count = spines::next_row(line, row, active, new);
             settle(row, &mut new[..count], masks)
         }
+    }
+}
+
+// The row of spines in cells, and what a star record is lent beside it: room for the next row, and a mask of held voices for each part.
+#[derive(Drop)]
+pub struct Rows {
+    pub row: [u16; 512],
+    pub next: [u16; 512],
+    pub masks: [u8; 8192],
+}
+
+impl Rows {
+    // Before any record: no cell is a part's.
+    pub fn empty() -> Rows
+        ensures { result ≡ record { row = replicate 512 0; next = replicate 512 0; masks = replicate 8192 0 } }
+    {
+        Rows {
+            row: [0; 512],
+            next: [0; 512],
+            masks: [0; 8192],
+        }
+    }
+
+    // One star record: question 17, then the next row of the first `active` cells, at most 256, with its voices, over the old one: how many
+    // spines are active then.
+    pub fn step(&mut self, line: &[u8], active: usize) -> Result<usize, Stop>
+        ensures outcome { outcome_of result self.new.row ≡ step_row (row_of (take (min active 256) self.old.row)) (record_tokens (min active 256) line.now) }
+        ensures few { active_after result ≤ 256 }
+    {
+        if let Some(column) = spines::mixed_run(line, &self.row, active) {
+            return Err(Stop::Mixed(column));
+        }
+        let count = spines::next_row(line, &self.row, active, &mut self.next);
+        let cells = &mut self.next[..];
+        settle(&mut self.row, &mut cells[..count], &mut self.masks)
     }
 }

@@ -1,5 +1,5 @@
 -- The first of the four voices that isn't held.
-use Rattle.std.proofs.Common.{◌≡◌, true, false, sym, ◌∙◌, rules}
+use Rattle.std.proofs.Common.{◌≡◌, true, false, rules}
 use borrow.Author.Tests.{tests}
 use Rattle.std.proofs.lemmas.Iterator.{first_from_Range}
 use Rattle.voices.specs.Mask.{bit}

@@ -1,5 +1,5 @@
 -- The voices first, then question 9 by the count, then the copy.
-use Rattle.std.proofs.Common.{ap, ◌∙◌, arith}
+use Rattle.std.proofs.Common.{ap, ◌∙◌}
 use Rattle.paths.specs.Voices.{narrow}
 use Rattle.voices.proofs.StepLaws.{too_wide, taken_over}
 use Rattle.voices.proofs.settle.Goals as goal
