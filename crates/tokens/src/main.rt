@@ -3,142 +3,94 @@
 // Answers what becomes of the last token of a record whose columns are all kern, a request and an answer to a line: `T` and the record.
 // The answer has the token's notices, 17 with its bytes, and then its note: value, actual, normal, dots, flags, beam, the bytes of its
 // pitches and its articulations.
-ghost use Rattle.std.specs.Prelude.{◌≤◌};
-
 use duration::Value;
 use notation::beam::Beam;
+use std::io::{self, BufRead, BufReader};
 use token::outcome::{Note, Unread};
 
-fn print(bytes: &[u8]) {
-    io::write_all(1, bytes);
-}
-
-fn print_number(n: u64) {
-    io::print_decimal(1, n);
-    print(b" ");
-}
-
-fn print_byte(b: u8) {
-    print_number(b as u64);
-}
-
-fn print_bytes(bytes: &[u8]) {
-    let mut i = 0;
-    while i < bytes.len() {
-        print_byte(bytes[i]);
-        i += 1;
+fn print_bytes(rt: &impl Print, bytes: &[u8]) -> io::Result<()> {
+    for b in bytes {
+        print!(rt; "{b} ")?;
     }
+    Ok(())
 }
 
-// Where the last token of a line begins.
-fn last_token(line: &[u8]) -> usize {
-    let mut at = 0;
-    let mut i = 0;
-    while i < line.len() {
-        if line[i] == b'\t' {
-            at = i + 1;
-        }
-        i += 1;
-    }
-    at
+// The flags of a note, as a NOTE has them.
+fn flags_of(n: Note) -> u8 {
+    u8::from(n.rest)
+        + 2 * u8::from(n.ties)
+        + 4 * u8::from(n.tied)
+        + 8 * u8::from(n.slurs)
+        + 16 * u8::from(n.slurred)
+        + 32 * u8::from(0 < n.grace)
+        + 64 * u8::from(n.grace == 2)
 }
 
-fn weight(b: bool, n: u64) -> u64
-    ensures { result ≤ n }
-{
-    if b {
-        return n;
-    }
-    0
-}
-
-fn print_flags(n: Note) {
-    let low = weight(n.rest, 1) + weight(n.ties, 2) + weight(n.tied, 4) + weight(n.slurs, 8);
-    let high = weight(n.slurred, 16) + weight(0 < n.grace, 32) + weight(n.grace == 2, 64);
-    print_number(low + high);
-}
-
-fn print_beam(token: &[u8]) {
+// The beam of a token, where none is held.
+fn beam_of(token: &[u8]) -> u8 {
     let letters = notation::beam::beam_letters(token);
     let fresh = Beam { held: false };
-    let next = fresh.next(letters.starts, letters.ends);
-    print_number(u64::from(u8::from(next.mark)));
+    u8::from(fresh.next(letters.starts, letters.ends).mark)
 }
 
-fn print_note(n: Note, token: &[u8]) {
-    print(b"note ");
-    print_number(n.value as u64);
-    print_number(n.actual as u64);
-    print_number(n.normal as u64);
-    print_number(n.dots as u64);
-    print_flags(n);
-    print_beam(token);
-    let mut pitches = [0u8; 1024];
-    lists::put_pitches(&mut pitches[..], token);
-    print_number(n.pitches as u64);
-    if n.pitches < 300 {
-        print_bytes(slices::piece(&pitches[..], 0, n.pitches * 3));
-    }
-    let mut articulations = [0u8; 1024];
-    lists::put_articulations(&mut articulations[..], token);
-    print_number(n.articulations as u64);
-    print_bytes(slices::piece(&articulations[..], 0, n.articulations));
+fn print_note(rt: &(impl Print + AllocGlobal), n: Note, token: &[u8]) -> io::Result<()> {
+    print!(rt; "note {} {} {} {} ", n.value, n.actual, n.normal, n.dots)?;
+    print!(rt; "{} {} {} ", flags_of(n), beam_of(token), n.pitches)?;
+    let mut pitches = vec![in rt.alloc(); 0u8; n.pitches.saturating_mul(3)]?;
+    lists::put_pitches(&mut pitches, token);
+    print_bytes(rt, &pitches)?;
+    print!(rt; "{} ", n.articulations)?;
+    let mut articulations = vec![in rt.alloc(); 0u8; n.articulations]?;
+    lists::put_articulations(&mut articulations, token);
+    print_bytes(rt, &articulations)
 }
 
-fn print_signifiers(count: usize, token: &[u8]) {
+fn print_signifiers(rt: &(impl Print + AllocGlobal), count: usize, token: &[u8]) -> io::Result<()> {
     if count == 0 {
-        return;
+        return Ok(());
     }
-    let mut bytes = [0u8; 1024];
-    lists::put_signifiers(&mut bytes[..], token);
-    print(b"17 ");
-    print(slices::piece(&bytes[..], 0, count));
-    print(b" ");
+    let mut signifiers = vec![in rt.alloc(); 0u8; count]?;
+    lists::put_signifiers(&mut signifiers, token);
+    print!(rt; "17 ")?;
+    rt.write_all(&signifiers)?;
+    print!(rt; " ")
 }
 
 // The length that a bare token takes from its record, of up to 16 columns.
 fn inferred_for(line: &[u8], token: &[u8]) -> Option<Value> {
-    let row = [8u16; 16];
     if peers::is_bare(token) {
-        return peers::agreed_duration(line, &row[..]);
+        return peers::agreed_duration(line, &[8u16; 16]);
     }
     None
 }
 
-fn answer(line: &[u8]) {
-    let at = last_token(line);
-    let token = slices::piece(line, at, line.len());
+fn answer(rt: &(impl Print + AllocGlobal), line: &[u8]) -> io::Result<()> {
+    let token = line.rsplit(|b| *b == b'\t').next().unwrap_or(line);
     let scan = scan::scan_token(token);
-    let inferred = inferred_for(line, token);
-    let signifiers = scan.signifiers;
-    match scan::outcome::kern_token(scan, inferred) {
-        Ok(None) => {}
+    match scan::outcome::kern_token(scan, inferred_for(line, token)) {
+        Ok(None) => Ok(()),
         Err(why) => {
             if why != Unread::BadLength {
-                print_signifiers(signifiers, token);
+                print_signifiers(rt, scan.signifiers, token)?;
             }
-            print_number(u64::from(why.notice()));
+            print!(rt; "{} ", why.notice())
         }
         Ok(Some(note)) => {
-            print_signifiers(signifiers, token);
+            print_signifiers(rt, scan.signifiers, token)?;
             if note.inferred {
-                print(b"20 ");
+                print!(rt; "20 ")?;
             }
-            print_note(note, token);
+            print_note(rt, note, token)
         }
     }
 }
 
-fn main() {
-    let mut text = [0u8; 65536];
-    let n = io::read_full(0, &mut text);
-    let requests = slices::piece(&text[..], 0, n);
-    let mut from = 0;
-    while from < requests.len() {
-        let end = from + slices::find(&requests[from..], b'\n');
-        let request = &requests[from..end];
-        answer(slices::piece(request, 1, request.len()));
-        print(b"\n");
-        from = end + 1;
+fn main(rt: HostRuntime) -> io::Result<()> {
+    let alloc = rt.alloc();
+    for request in BufReader::new(alloc, rt.reader())?.split(alloc, b'\n') {
+        let request = request?;
+        answer(&rt, request.strip_prefix(b"T").unwrap_or(&request))?;
+        println!(rt; "")?;
     }
+    Ok(())
 }
