@@ -16,6 +16,7 @@ ghost use Rattle.state.specs.View.{state_of, landed, told, told_row};
 ghost use Rattle.header.specs.Columns.{notice_other, HeaderTable};
 ghost use Rattle.state.specs.Counts.{Same};
 
+use notice::Code;
 use reading::Part;
 use reference::Key;
 use refusal::Refusal;
@@ -49,7 +50,7 @@ pub fn read_reference(line: &[u8], number: u32, offset: u32, tally: Tally, out: 
         Key::Other => {
             let key = sheet::span_of(from + r.key_span.at as u32, r.key_span.len as u32);
             let notice = Notice {
-                number: 1,
+                number: u8::from(Code::UnsupportedReference),
                 column: 0,
                 line: number,
                 value,
@@ -175,7 +176,7 @@ fn notice_other(
     writing::notify(
         out,
         tally,
-        2,
+        Code::UnsupportedSpine,
         number,
         column,
         Span {

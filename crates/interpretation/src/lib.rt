@@ -10,6 +10,9 @@ pub mod tempo;
 ghost use Rattle.std.specs.Prelude.{◌≡◌, drop};
 ghost use Rattle.interpretation.specs.Interpretation.{meter_mark, is_attribute, other_of, meaning_of, interpretation_of};
 ghost use Rattle.interpretation.specs.Unsupported.{notice_number};
+ghost use Rattle.notice.specs.Number.{number_of};
+
+use notice::Code;
 
 #[derive(Clone, Copy, PartialEq, Eq, Debug)]
 pub enum Interpretation {
@@ -27,26 +30,36 @@ pub enum Interpretation {
     Mode(key::Mode),
 }
 
-// Why an interpretation is not read. The numbers are those of the notices that say so.
+// Why an interpretation is not read.
 #[derive(Clone, Copy, PartialEq, Eq, Debug)]
 pub enum Unsupported {
     // A clef, a key, a meter or a sign after a note of its part in the bar.
-    InsideBar = 8,
-    OtherClef = 9,
+    InsideBar,
+    OtherClef,
     // A key signature without its closing bracket.
-    OpenKey = 10,
-    OtherKey = 11,
-    OtherMeter = 12,
-    OtherSymbol = 13,
-    OtherTempo = 14,
-    Other = 15,
+    OpenKey,
+    OtherKey,
+    OtherMeter,
+    OtherSymbol,
+    OtherTempo,
+    Other,
 }
 
-impl From<Unsupported> for u8 {
-    ghost from_gives = { λ w r. r ≡ notice_number w };
+// The notice that says so.
+impl From<Unsupported> for Code {
+    ghost from_gives = { λ why what. number_of what ≡ notice_number why };
 
-    fn from(why: Unsupported) -> u8 {
-        why as u8
+    fn from(why: Unsupported) -> Code {
+        match why {
+            Unsupported::InsideBar => Code::UnsupportedMidMeasureChange,
+            Unsupported::OtherClef => Code::UnsupportedClef,
+            Unsupported::OpenKey => Code::MalformedKeySignature,
+            Unsupported::OtherKey => Code::NonStandardKeySignature,
+            Unsupported::OtherMeter => Code::UnsupportedMeter,
+            Unsupported::OtherSymbol => Code::UnsupportedMensurationSign,
+            Unsupported::OtherTempo => Code::UnsupportedTempo,
+            Unsupported::Other => Code::UnsupportedInterpretation,
+        }
     }
 }
 

@@ -5,6 +5,7 @@ use duration::Value;
 use interpretation::Interpretation;
 use names::SpineName;
 use notation::beam::Beam;
+use notice::Code;
 use pitch::Pitch;
 use reference::Key;
 use std::io::{self, BufRead, BufReader};
@@ -105,7 +106,7 @@ fn interpretation_of(rt: &impl Print, token: &[u8], noted: bool) -> io::Result<(
             print_name(rt, token)
         }
         Ok(Interpretation::Mode(mode)) => print!(rt; "8 {}", u8::from(mode)),
-        Err(why) => print!(rt; "9 {}", u8::from(why)),
+        Err(why) => print!(rt; "9 {}", u8::from(Code::from(why))),
     }
 }
 

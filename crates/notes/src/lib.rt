@@ -3,6 +3,7 @@
 // A token of a kern line: its notices and its NOTE.
 ghost use Rattle.std.specs.Prelude.{◌≡◌, List, ℕ, ◌^◌, ◌≤◌, ◌<◌, length};
 ghost use Rattle.notation.specs.Beam.{beam_number};
+ghost use Rattle.notice.specs.Number.{number_of};
 ghost use Rattle.token.specs.Scan.{scan_of};
 ghost use Rattle.items.specs.Items.{items};
 ghost use Rattle.token.specs.Token.{articulations_of};
@@ -17,6 +18,7 @@ ghost use Rattle.notes.specs.Spot.{token_at, token_step, note_at, with_note, Kep
 
 use duration::Value;
 use notation::beam::Beam;
+use notice::Code;
 use plain::Plain;
 use reading::Part;
 use refusal::Refusal;
@@ -102,14 +104,14 @@ fn with_note(tally: Tally, at: usize) -> Tally
 // ---- one token
 
 // A notice that preserves the token.
-fn notify_token(token: &[u8], number: u8, spot: Spot, tally: Tally, out: &mut [u8]) -> Tally
+fn notify_token(token: &[u8], what: Code, spot: Spot, tally: Tally, out: &mut [u8]) -> Tally
     requires { length token.now < 2 ^ 27 }
-    ensures { Noticed tally result out.old out.new (notify number spot.line spot.column (span_of_token (token_at spot token.now))) }
+    ensures { Noticed tally result out.old out.new (notify (number_of what) spot.line spot.column (span_of_token (token_at spot token.now))) }
 {
     writing::notify(
         out,
         tally,
-        number,
+        what,
         spot.line,
         spot.column,
         Span {
@@ -125,7 +127,7 @@ fn notify_inferred(token: &[u8], inferred: bool, spot: Spot, tally: Tally, out: 
     ensures { Noticed tally result out.old out.new (inferred_notice inferred token.now spot) }
 {
     if inferred {
-        return notify_token(token, 20, spot, tally, out);
+        return notify_token(token, Code::InferredDuration, spot, tally, out);
     }
     tally
 }
@@ -189,7 +191,7 @@ pub fn read_token(
     match scan::outcome::kern_token(scan, inferred) {
         Ok(None) => Ok(t),
         Ok(Some(n)) => add_note(token, n, spot, parts, t, out),
-        Err(why) => Ok(notify_token(token, why.notice(), spot, t, out)),
+        Err(why) => Ok(notify_token(token, Code::from(why), spot, t, out)),
     }
 }
 

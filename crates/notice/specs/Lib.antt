@@ -1,2 +1,3 @@
--- The table of notices.
+-- The table of notices, and their numbers.
+pub mod Number
 pub mod Table

@@ -2,6 +2,8 @@
 
 // One line of a text: its kind, its repair, and what it comes to.
 ghost use Rattle.std.specs.Prelude.{◌≡◌, ◌||◌, List, ℕ, ◌+◌, ◌<◌, ◌^◌, length, take, ◌≤◌};
+ghost use Rattle.std.specs.Option.{option_map};
+ghost use Rattle.notice.specs.Number.{number_of};
 ghost use Rattle.lines.specs.Lines.{kind_of};
 ghost use Rattle.lines.specs.Tokens.{tokens_of};
 ghost use Rattle.lines.specs.declared.Kind.TheVariants.{Bar, Data};
@@ -19,21 +21,22 @@ ghost use Rattle.state.specs.Counts.{Same};
 ghost use Rattle.records.specs.Here.{Under, Here, Evenly};
 
 use lines::Kind;
+use notice::Code;
 use reading::Part;
 use refusal::Refusal;
 use repair::{Repair, Unrepaired};
 use sheet::Span;
 use state::{Flow, Tally};
 
-// The number of the notice that says of a repair.
-fn repair_notice(repair: Repair) -> Option<u8>
-    ensures { result ≡ repair_notice repair }
+// The notice that says of a repair.
+fn repair_notice(repair: Repair) -> Option<Code>
+    ensures { option_map number_of result ≡ repair_notice repair }
 {
     match repair {
         Repair::Whole => None,
-        Repair::Cut => Some(4),
-        Repair::Stars => Some(5),
-        Repair::Bars => Some(6),
+        Repair::Cut => Some(Code::TrailingEmptyField),
+        Repair::Stars => Some(Code::MissingNullInterpretation),
+        Repair::Bars => Some(Code::MissingBarlineField),
     }
 }
 
@@ -52,10 +55,10 @@ fn notice_repair(
 {
     match repair_notice(repair) {
         None => tally,
-        Some(n) => writing::notify(
+        Some(what) => writing::notify(
             out,
             tally,
-            n,
+            what,
             number,
             0,
             Span {
@@ -156,7 +159,7 @@ fn read_record(
         let noticed = writing::notify(
             out,
             tally,
-            3,
+            Code::UnsupportedSegment,
             number,
             0,
             Span {

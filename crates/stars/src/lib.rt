@@ -22,6 +22,7 @@ ghost use Rattle.stars.specs.Columns.{filled, token_of, columns_of, with_first, 
 ghost use Rattle.stars.specs.Next.{stepped};
 
 use interpretation::Interpretation;
+use notice::Code;
 use paths::PathToken;
 use reading::Part;
 use refusal::Refusal;
@@ -76,7 +77,7 @@ fn apply(
         Err(why) => writing::notify(
             out,
             tally,
-            u8::from(why),
+            Code::from(why),
             number,
             column,
             Span { at: offset, len },
@@ -135,7 +136,14 @@ fn read_column(
         PathToken::End => tally,
         PathToken::Add => {
             let len = token.len() as u32;
-            writing::notify(out, tally, 7, number, column, Span { at: offset, len })
+            writing::notify(
+                out,
+                tally,
+                Code::UnsupportedSpineAdd,
+                number,
+                column,
+                Span { at: offset, len },
+            )
         }
         PathToken::Other => apply_in(token, cell, parts, tally, number, column, offset, out),
     }

@@ -1,6 +1,9 @@
 // What becomes of a token: nothing, a note, or a notice.
 ghost use Rattle.std.specs.Prelude.{◌≡◌};
+ghost use Rattle.notice.specs.Number.{number_of};
 ghost use Rattle.token.specs.Outcome.{notice_number};
+
+use notice::Code;
 
 // A note, without its lists, of which the lengths are given; 0, 0 is no tuplet. `inferred` says that its length was.
 #[derive(Clone, Copy, PartialEq, Eq, Debug)]
@@ -29,16 +32,16 @@ pub enum Unread {
     NoLength,
 }
 
-impl Unread {
-    // The number of the notice that the token gives.
-    pub fn notice(self) -> u8
-        ensures { result ≡ notice_number self }
-    {
-        match self {
-            Unread::BadLength => 16,
-            Unread::NoPitch => 18,
-            Unread::BadReciprocal => 19,
-            Unread::NoLength => 21,
+// The notice that the token gives.
+impl From<Unread> for Code {
+    ghost from_gives = { λ why what. number_of what ≡ notice_number why };
+
+    fn from(why: Unread) -> Code {
+        match why {
+            Unread::BadLength => Code::RationalDuration,
+            Unread::NoPitch => Code::UnsupportedToken,
+            Unread::BadReciprocal => Code::UnsupportedDuration,
+            Unread::NoLength => Code::MissingDuration,
         }
     }
 }

@@ -5,6 +5,7 @@
 // pitches and its articulations.
 use duration::Value;
 use notation::beam::Beam;
+use notice::Code;
 use std::io::{self, BufRead, BufReader};
 use token::outcome::{Note, Unread};
 
@@ -73,7 +74,7 @@ fn answer(rt: &(impl Print + AllocGlobal), line: &[u8]) -> io::Result<()> {
             if why != Unread::BadLength {
                 print_signifiers(rt, scan.signifiers, token)?;
             }
-            print!(rt; "{} ", why.notice())
+            print!(rt; "{} ", u8::from(Code::from(why)))
         }
         Ok(Some(note)) => {
             print_signifiers(rt, scan.signifiers, token)?;

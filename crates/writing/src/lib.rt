@@ -8,10 +8,12 @@ ghost use Rattle.items.specs.Items.{items};
 ghost use Rattle.token.specs.Outcome.{note_pitches};
 ghost use Rattle.token.specs.Token.{articulations_of, signifiers_of};
 ghost use Rattle.lists.specs.Lists.{pitch_bytes, articulation_bytes};
+ghost use Rattle.notice.specs.Number.{number_of};
 ghost use Rattle.sheet.specs.Record.{NOTICE, span_of, record_bytes};
 ghost use Rattle.state.specs.Lay.{laid, behind};
 ghost use Rattle.writing.specs.Kept.{note_record, Alone, kept_records, after_kept, notice_of, signifiers_notice, counted};
 
+use notice::Code;
 use sheet::{Note, Notice, Pitch, Span, Whole};
 use state::Tally;
 use token::pitches::Tone;
@@ -147,16 +149,16 @@ pub fn keep(out: &mut [u8], tally: Tally, notice: Notice) -> Tally
 pub fn notify(
     out: &mut [u8],
     tally: Tally,
-    number: u8,
+    what: Code,
     line: u32,
     column: u16,
     piece: Span,
 ) -> Tally
-    ensures { (out.new ≡ laid out.old tally.at (kept_records tally (notice_of number line column (span_of piece.at piece.len)) [])) × (result ≡ after_kept tally (notice_of number line column (span_of piece.at piece.len)) []) }
+    ensures { (out.new ≡ laid out.old tally.at (kept_records tally (notice_of (number_of what) line column (span_of piece.at piece.len)) [])) × (result ≡ after_kept tally (notice_of (number_of what) line column (span_of piece.at piece.len)) []) }
 {
     let value = sheet::span_of(piece.at, piece.len);
     let notice = Notice {
-        number,
+        number: u8::from(what),
         column,
         line,
         value,
@@ -179,7 +181,7 @@ pub fn notify_signifiers(
 {
     if tally.notices < 1024 {
         let notice = Notice {
-            number: 17,
+            number: u8::from(Code::UnsupportedSignifier),
             column,
             line,
             value: Span {

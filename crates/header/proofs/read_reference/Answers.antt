@@ -35,4 +35,4 @@ pub returns-in-Lyricist : goal.returns-in-Lyricist
 returns-in-Lyricist c = record { told = λ cells parts. lyricist_told c.args.line.now _ c.reference_of-r.result c.args.number c.args.offset c.args.tally c.tail.ensures c.reference_of-r.ensures c.span_of-value.result c.span_of-value.ensures cells parts c.args.out.now c.in-Lyricist.is; same = record { active = refl; parts = refl; bars = refl } }
 
 pub returns-in-Other : goal.returns-in-Other
-returns-in-Other c = record { told = λ cells parts. other_key_told c.args.line.now _ c.reference_of-r.result c.args.number c.args.offset c.args.tally c.tail.ensures c.reference_of-r.ensures c.span_of-value.result c.span_of-value.ensures cells parts c.args.out.now c.span_of-key.result c.span_of-key.ensures c.in-Other.is _ _ c.keep.ensures; same = subst (Same c.args.tally) (sym c.keep.ensures.1) (kept_same c.args.tally _ []) }
+returns-in-Other c = record { told = λ cells parts. other_key_told c.args.line.now _ c.reference_of-r.result c.args.number c.args.offset c.args.tally c.tail.ensures c.reference_of-r.ensures c.span_of-value.result c.span_of-value.ensures cells parts c.args.out.now c.span_of-key.result c.span_of-key.ensures c.in-Other.is _ _ (rw c.from.ensures at c.keep.ensures); same = subst (Same c.args.tally) (sym c.keep.ensures.1) (kept_same c.args.tally _ []) }

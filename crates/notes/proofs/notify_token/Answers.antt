@@ -1,6 +1,7 @@
 -- What is kept of the notice is what the reading keeps.
 use mathlib.Core.List.{[]}
 use lib.ListN.{length}
+use Rattle.notice.specs.Number.{number_of}
 use Rattle.sheet.specs.Record.{span_of}
 use Rattle.writing.specs.Kept.{notice_of}
 use Rattle.notes.proofs.NoticeLaws.{noticed_by, notify_is}
@@ -8,4 +9,4 @@ use Rattle.notes.proofs.notify_token.Goals as goal
 
 pub returns : goal.returns
 returns c = let value = span_of c.args.spot.at (length c.args.token.now) in
-    noticed_by c.args.tally (notice_of c.args.number c.args.spot.line c.args.spot.column value) [] c.args.out.now _ (notify_is c.args.number c.args.spot.line c.args.spot.column value) c.notify.ensures.1 c.notify.ensures.0
+    noticed_by c.args.tally (notice_of (number_of c.args.what) c.args.spot.line c.args.spot.column value) [] c.args.out.now _ (notify_is (number_of c.args.what) c.args.spot.line c.args.spot.column value) c.notify.ensures.1 c.notify.ensures.0

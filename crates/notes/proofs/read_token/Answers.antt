@@ -16,7 +16,7 @@ pub returns-in-Ok-None : goal.returns-in-Ok-None
 returns-in-Ok-None c = (λ cells. silent_step cells c.args.parts.now c.args.token.now c.args.inferred c.args.spot c.is_null.ensures c.if-is_null.false c.scan_token-scan.ensures c.signify-t.ensures c.kern_token.ensures (c.in-Ok-None.is ∙ ap Ok c.in-Ok-None.field-0-is), c.signify-t.ensures.same)
 
 pub returns-in-Err : goal.returns-in-Err
-returns-in-Err c = (λ cells. unread_step cells c.args.parts.now c.args.token.now c.args.inferred c.args.spot c.is_null.ensures c.if-is_null.false c.scan_token-scan.ensures c.signify-t.ensures c.kern_token.ensures c.in-Err.is c.notice.ensures c.notify_token.ensures, same_same c.signify-t.ensures.same c.notify_token.ensures.same)
+returns-in-Err c = (λ cells. unread_step cells c.args.parts.now c.args.token.now c.args.inferred c.args.spot c.is_null.ensures c.if-is_null.false c.scan_token-scan.ensures c.signify-t.ensures c.kern_token.ensures c.in-Err.is c.from.ensures c.notify_token.ensures, same_same c.signify-t.ensures.same c.notify_token.ensures.same)
 
 pub add_note-requires : goal.add_note-requires
 add_note-requires c = let p = c.requires in

@@ -2,4 +2,4 @@
 use Rattle.writing.proofs.notify.Goals as goal
 
 pub returns : goal.returns
-returns c = rw (← c.span_of-value.ensures) c.keep.ensures
+returns c = rw (← c.from.ensures, ← c.span_of-value.ensures) c.keep.ensures
