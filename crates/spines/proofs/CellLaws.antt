@@ -8,7 +8,7 @@ use lib.Dec.{eqb, ltb}
 use lib.ListN.{length, get_or, take, drop, length-map}
 use lib.Seq.{take-suc, drop-cons, get_or-drop}
 use native.Mathlib.Numerals.{add-one}
-use borrow.Author.Tests.{eq-eqb, ne_eqb, lt-ltb, le-ltb, eqb-false, ltb-true, ltb-false}
+use borrow.Author.Tests.{eq-eqb, ne_eqb, lt-ltb, le-ltb, eqb-false, ltb-true}
 use Rattle.slices.proofs.TestLaws.{clash}
 use Rattle.paths.specs.Row.{branch_from, spine_at}
 use Rattle.paths.specs.declared.Spine.{Spine}
@@ -32,6 +32,38 @@ unfolding spine_of
 cell_branch c p q v =
     let n : c / 8 - 1 ≡ p = omega arith in
     rw (ne_eqb (c / 8) 0 (λ e. omega arith), le-ltb (c % 8) 4 v, n)
+
+-- what the cell of a line, and of a branch, is
+pub record OfLine (c p v : ℕ) : Type 0 where
+  pub part : c / 8 ≡ p + 1
+  pub voice : c % 8 ≡ v
+  pub low : v < 4
+
+pub of_line : (c : ℕ) {p v : ℕ} → spine_of c ≡ Line p v → OfLine c p v
+unfolding spine_of
+of_line c {p} {v} h = go (eqb (c / 8) 0) (ltb (c % 8) 4) refl refl h
+  where
+    go : (a b : Bool) → eqb (c / 8) 0 ≡ a → ltb (c % 8) 4 ≡ b → cond a Outside (cond b (Line (c / 8 - 1) (c % 8)) (Branch (c / 8 - 1))) ≡ Line p v → OfLine c p v
+    go true b x y g = clash cc
+    go false true x y g =
+        let n : (c / 8 ≡ 0 → ⊥) = eqb-false (c / 8) 0 x in
+        let l : c % 8 < 4 = ltb-true (c % 8) 4 y in
+        let e : c / 8 - 1 ≡ p = cc in
+        let f : c % 8 ≡ v = cc in
+        record { part = omega arith; voice = f; low = omega arith }
+    go false false x y g = clash cc
+
+pub of_branch : (c : ℕ) {p : ℕ} → spine_of c ≡ Branch p → c / 8 ≡ p + 1
+unfolding spine_of
+of_branch c {p} h = go (eqb (c / 8) 0) (ltb (c % 8) 4) refl h
+  where
+    go : (a b : Bool) → eqb (c / 8) 0 ≡ a → cond a Outside (cond b (Line (c / 8 - 1) (c % 8)) (Branch (c / 8 - 1))) ≡ Branch p → c / 8 ≡ p + 1
+    go true b x g = clash cc
+    go false true x g = clash cc
+    go false false x g =
+        let n : (c / 8 ≡ 0 → ⊥) = eqb-false (c / 8) 0 x in
+        let e : c / 8 - 1 ≡ p = cc in
+        omega arith
 
 -- the branch of a spine
 pub cell_fork : (c : ℕ) → spine_of (c / 8 * 8 + 4) ≡ branch_from (spine_of c)
@@ -98,20 +130,6 @@ branch_spine c h = go (eqb (c / 8) 0) (ltb (c % 8) 4) h
     go true b g = cc
     go false true g = cc
     go false false g = refl
-
--- what the tests on a cell say
-pub branch_low : (c : ℕ) → c < 8 → false ≡ is_branch (spine_of c)
-branch_low c h = let z : c / 8 ≡ 0 = omega arith in sym (rw (cell_outside c z))
-
-pub branch_test : (c : ℕ) → 8 ≤ c → ltb 3 (c % 8) ≡ is_branch (spine_of c)
-branch_test c h = go (ltb 3 (c % 8)) refl
-  where
-    part : c / 8 ≡ c / 8 - 1 + 1
-    part = omega arith
-
-    go : (b : Bool) → ltb 3 (c % 8) ≡ b → b ≡ is_branch (spine_of c)
-    go true e = let v : 4 ≤ c % 8 = omega (arith, ltb-true 3 (c % 8) e) in sym (rw (cell_branch c (c / 8 - 1) part v))
-    go false e = let v : c % 8 < 4 = omega (arith, ltb-false 3 (c % 8) e) in sym (rw (cell_line c (c / 8 - 1) part v))
 
 -- as many spines as cells
 pub row_length : (cells : List ℕ) → length (row_of cells) ≡ length cells

@@ -21,7 +21,7 @@ use Rattle.spines.specs.Cells.{spine_of, row_of}
 use Rattle.std.proofs.Common as Std
 use Rattle.std.proofs.Common.{Some, None, MatchOption}
 use Rattle.voices.specs.Mask.{bit, voice_of, WithVoice, Cleared, Account}
-use Rattle.spines.proofs.CellLaws.{cell_outside, cell_line, cell_branch, row_take}
+use Rattle.spines.proofs.CellLaws.{of_line, row_take}
 
 -- ---- one mask
 
@@ -149,12 +149,6 @@ account_voice {cells} {masks} {held} p {v} {m} a fits told = record { tells = λ
     go j q w l e h (no other) =
         rw (get_or-set_other masks (suc p) (suc q) m 0 (λ z. other (omega arith)), ne_eqb q p other) (a.tells j q w l e h)
 
--- a mask that is no part's
-account_outside : {cells masks : List ℕ} {held : ℕ → ℕ → Bool} (m : ℕ) → Account cells masks held → Account cells (set masks 0 m) held
-account_outside {cells} {masks} m a = record {
-  tells = λ j p v l e h. ap (λ (x : ℕ). bit x v) (get_or-set_other masks 0 (suc p) m 0 (λ z. omega arith)) ∙ a.tells j p v l e h;
-}
-
 pub record Marking (cells masks : List ℕ) (size i : ℕ) : Type 0 where
   pub high : i ≤ length cells
   pub kept : length masks ≡ size
@@ -173,28 +167,23 @@ module _ {cells masks : List ℕ} {size i : ℕ} (inv : Marking cells masks size
   more s e p v = ap (λ (r : List Spine). holds r p v) (sym (row_take cells i h ∙ ap (λ (x : Spine). row_of (take i cells) ++ (x ∷ [])) e))
 
   -- a branch, or a spine outside kern
-  pub marking_pass : 4 ≤ get_or cells i 0 % 8 → Marking cells masks size (i + 1)
-  marking_pass v = record { high = omega arith; kept = inv.kept; account = account_by inv.account (go (get_or cells i 0 / 8) refl) }
+  pub marking_pass : ((p v : ℕ) → spine_of (get_or cells i 0) ≡ Line p v → ⊥) → Marking cells masks size (i + 1)
+  marking_pass n = record { high = omega arith; kept = inv.kept; account = account_by inv.account (go (spine_of (get_or cells i 0)) refl) }
     where
-      go : (q : ℕ) → get_or cells i 0 / 8 ≡ q → (p w : ℕ) → holds (row_of (take i cells)) p w ≡ holds (row_of (take (i + 1) cells)) p w
-      go zero e p w = sym (holds_outside (row_of (take i cells)) p w) ∙ more Outside (cell_outside (get_or cells i 0) e) p w
-      go (suc r) e p w =
-          let part : get_or cells i 0 / 8 ≡ r + 1 = omega arith in
-          sym (holds_branch (row_of (take i cells)) r p w) ∙ more (Branch r) (cell_branch (get_or cells i 0) r part v) p w
+      go : (s : Spine) → spine_of (get_or cells i 0) ≡ s → (p w : ℕ) → holds (row_of (take i cells)) p w ≡ holds (row_of (take (i + 1) cells)) p w
+      go Outside e p w = sym (holds_outside (row_of (take i cells)) p w) ∙ more Outside e p w
+      go (Branch r) e p w = sym (holds_branch (row_of (take i cells)) r p w) ∙ more (Branch r) e p w
+      go (Line r v) e p w = absurd (n r v e)
 
-  pub marking_line : {q v m : ℕ} → v ≡ get_or cells i 0 % 8 → v < 4 → q ≡ get_or cells i 0 / 8 → q < size →
+  pub marking_line : {r q v m : ℕ} → spine_of (get_or cells i 0) ≡ Line r v → q ≡ get_or cells i 0 / 8 → q < size →
       WithVoice (get_or masks q 0) v m → Marking cells (set masks q m) size (i + 1)
-  marking_line {q} {v} {m} ve vl qe fits told = record { high = omega arith; kept = simp length-set inv.kept; account = go q qe fits told }
-    where
-      go : (k : ℕ) → k ≡ get_or cells i 0 / 8 → k < size → WithVoice (get_or masks k 0) v m →
-          Account cells (set masks k m) (holds (row_of (take (i + 1) cells)))
-      go zero e f told =
-          account_by (account_outside m inv.account) (λ p w. sym (holds_outside (row_of (take i cells)) p w) ∙ more Outside (cell_outside (get_or cells i 0) (sym e)) p w)
-      go (suc r) e f told =
-          let part : get_or cells i 0 / 8 ≡ r + 1 = omega arith in
-          let low : get_or cells i 0 % 8 < 4 = omega arith in
-          let is : spine_of (get_or cells i 0) ≡ Line r v = cell_line (get_or cells i 0) r part low ∙ ap (Line r) (sym ve) in
-          account_by (account_voice r inv.account (omega (arith, inv.kept)) told) (λ p w. sym (holds_line (row_of (take i cells)) r v p w) ∙ more (Line r v) is p w)
+  marking_line {r} {q} {v} {m} is e fits told =
+      let at : q ≡ suc r = omega (arith, (of_line (get_or cells i 0) is).part) in
+      record {
+        high = omega arith;
+        kept = simp length-set inv.kept;
+        account = rw at (account_by (account_voice r inv.account (omega (arith, at, inv.kept)) (rw at at told)) (λ p w. sym (holds_line (row_of (take i cells)) r v p w) ∙ more (Line r v) is p w));
+      }
 
 pub marking_past : {cells masks : List ℕ} {size i : ℕ} → Marking cells masks size i → length cells ≤ i → Account cells masks (holds (row_of cells))
 marking_past {cells} {masks} {size} {i} inv h = account_by inv.account (λ p v. ap (λ (l : List ℕ). holds (row_of l) p v) (take_all i cells h))

@@ -8,6 +8,8 @@ ghost use Rattle.spines.specs.Tokens.{record_tokens};
 ghost use Rattle.voices.specs.Mask.{bit, WithVoice, voice_of, Cleared, Account};
 ghost use Rattle.voices.specs.Outcome.{given_of, outcome_of, active_after};
 
+use paths::Spine;
+
 // Whether a voice is held.
 fn taken(mask: u8, voice: u8) -> bool
     requires { voice < 4 }
@@ -38,13 +40,6 @@ fn place(cell: u16) -> usize
     usize::from(cell / 8)
 }
 
-// A line's voice.
-fn voice_of(cell: u16) -> u8
-    ensures { result ≡ cell % 8 }
-{
-    (cell % 8) as u8
-}
-
 // The cell of a branch that has got its voice.
 fn voiced(cell: u16, voice: u8) -> u16
     requires { voice < 4 }
@@ -57,12 +52,11 @@ fn voiced(cell: u16, voice: u8) -> u16
 fn is_branch(cell: u16) -> bool
     ensures { result ≡ is_branch (spine_of cell) }
 {
-    cell >= 8 && cell % 8 > 3
+    matches!(spines::spine_of(cell), Spine::Branch { .. })
 }
 
 // Clears the masks of a row's parts.
-fn clear(cells: &[u16], masks: &mut [u8])
-    requires { length masks.old ≡ 8192 }
+fn clear(cells: &[u16], masks: &mut [u8; 8192])
     ensures { Cleared cells.now masks.new }
 {
     for cell in cells {
@@ -71,16 +65,14 @@ fn clear(cells: &[u16], masks: &mut [u8])
 }
 
 // Sets the voices of a row's lines in masks that are clear.
-fn mark(cells: &[u16], masks: &mut [u8])
-    requires { (length masks.old ≡ 8192) × Cleared cells.now masks.old }
+fn mark(cells: &[u16], masks: &mut [u8; 8192])
+    requires { Cleared cells.now masks.old }
     ensures { Account cells.now masks.new (holds (row_of cells.now)) }
 {
     for cell in cells {
-        let voice = voice_of(*cell);
-        let line = voice < 4;
-        if line {
+        if let Spine::Line { voice, .. } = spines::spine_of(*cell) {
             let q = place(*cell);
-            masks[q] = with_voice(masks[q], voice);
+            masks[q] = with_voice(masks[q], voice as u8);
         }
     }
 }
@@ -94,8 +86,8 @@ pub enum Stop {
 }
 
 // Gives the branches their voices, left to right: the masks tell the lines' voices. The first that finds none stops it.
-fn give(cells: &mut [u16], masks: &mut [u8]) -> Result<(), Stop>
-    requires { (length masks.old ≡ 8192) × Account cells.old masks.old (holds (row_of cells.old)) }
+fn give(cells: &mut [u16], masks: &mut [u8; 8192]) -> Result<(), Stop>
+    requires { Account cells.old masks.old (holds (row_of cells.old)) }
     ensures { given_of result cells.new ≡ voice_row (row_of cells.old) }
 {
     for i in 0..cells.len() {
@@ -115,8 +107,7 @@ fn give(cells: &mut [u16], masks: &mut [u8]) -> Result<(), Stop>
 }
 
 // Voices for the next row in `cells`, then question 9; the row is taken over where it passes: how many spines are active then.
-fn settle(row: &mut [u16], cells: &mut [u16], masks: &mut [u8]) -> Result<usize, Stop>
-    requires { (length row.old ≡ 512) × (length masks.old ≡ 8192) }
+fn settle(row: &mut [u16; 512], cells: &mut [u16], masks: &mut [u8; 8192]) -> Result<usize, Stop>
     ensures outcome { outcome_of result row.new ≡ narrow (voice_row (row_of cells.old)) }
     ensures few { active_after result ≤ 256 }
 {

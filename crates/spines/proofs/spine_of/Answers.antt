@@ -1,4 +1,4 @@
-use Rattle.std.proofs.Common.{sym, arith, ◌≡◌, ◌≤◌, ◌<◌, ℕ, ◌+◌, ◌-◌, ◌/◌, ◌%◌}
+use Rattle.std.proofs.Common.{sym, arith, ◌-◌, ◌/◌}
 use Rattle.spines.proofs.CellLaws.{cell_outside, cell_line, cell_branch}
 use Rattle.spines.proofs.spine_of.Goals as goal
 

@@ -9,7 +9,7 @@ use Rattle.voices.proofs.give.Goals as goal
 use Rattle.voices.proofs.give.Goals.{then-is_branch+in-Some, else-is_branch}
 
 pub loop-i-init : goal.loop-i-init
-loop-i-init c = giving_first c.requires.1
+loop-i-init c = giving_first c.requires
 
 pub voiced-requires : goal.voiced-requires
 voiced-requires c = lowest_low (bit (get_or c.loop-i.masks c.place-q.result 0)) _ c.in-Some.ensures
@@ -29,7 +29,7 @@ loop-i-preserved c =
     elim c.if-is_branch.branch [
       | then-is_branch+in-Some w ↦ rw (w.cells-is, w.masks-is) (
           giving_voice c.loop-i.invariant (omega arith) (sym c.is_branch.ensures ∙ w.if-is_branch.true) (ap (λ (k : ℕ). get_or c.loop-i.masks k 0) w.place-q.ensures.0)
-          w.in-Some.ensures w.voiced.ensures w.place-q.ensures.0 (omega (arith, w.place-q.ensures, c.requires)) w.with_voice.ensures
+          w.in-Some.ensures w.voiced.ensures w.place-q.ensures.0 (omega (arith, w.place-q.ensures)) w.with_voice.ensures
           )
       | else-is_branch w ↦ rw (w.cells-is, w.masks-is) (giving_keep c.loop-i.invariant (omega arith) (sym c.is_branch.ensures ∙ w.if-is_branch.false))
     ]
