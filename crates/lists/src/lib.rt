@@ -25,6 +25,7 @@ fn put_articulation(out: &mut [u8], k: usize, b: u8) -> usize
 }
 
 // The articulations of a token, for which there is room; no digit, letter of a step or blank is one.
+#[inline(never)]
 pub fn fill_articulations(out: &mut [u8], token: &[u8])
     requires { length (articulation_bytes token.now) ≤ length out.old }
     ensures { out.new ≡ stored out.old (articulation_bytes token.now) }
@@ -153,6 +154,7 @@ fn sign(s: Option<Tone>, b: u8) -> Option<Tone>
 // The pitches of a token that is no rest, for which there is room.
 // Stays: its walk and that of `fill_signifiers` share the tests of an item's kind alone; one walk over both would take a trait with a
 // method and a contract for each of five kinds, where each walk here has a branch.
+#[inline(never)]
 pub fn fill_pitches(out: &mut [u8], token: &[u8])
     requires { (rest_of (items token.now) ≡ false) × (length (pitch_bytes token.now) ≤ length out.old) }
     ensures { out.new ≡ stored out.old (pitch_bytes token.now) }

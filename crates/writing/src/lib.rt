@@ -55,6 +55,7 @@ fn write_signified(out: &mut [u8], at: usize, notice: Notice, token: &[u8], coun
 }
 
 // The pitches of a token behind its NOTE, where there are any: the one that it has, if that is known.
+#[inline(always)]
 fn add_pitches(out: &mut [u8], token: &[u8], alone: Option<Tone>, count: usize)
     requires count { count ≡ length (note_pitches token.now) }
     requires room { 28 + count * 3 ≤ length out.old }
@@ -90,6 +91,7 @@ fn add_articulations(out: &mut [u8], at: usize, token: &[u8], count: usize)
 }
 
 // A NOTE, the pitches and the articulations of its token behind it, at the start of a buffer.
+#[inline(always)]
 fn put_noted(out: &mut [u8], note: Note, token: &[u8], alone: Option<Tone>)
     requires pitches { note.pitches ≡ length (note_pitches token.now) }
     requires articulations { note.articulations ≡ length (articulations_of (items token.now)) }
@@ -108,6 +110,7 @@ fn put_noted(out: &mut [u8], note: Note, token: &[u8], alone: Option<Tone>)
 }
 
 // A NOTE with its lists, at a place; the place behind it. `alone` is the one pitch of the token, where it is known that it has no more.
+#[inline(always)]
 pub fn write_note(out: &mut [u8], at: usize, note: Note, token: &[u8], alone: Option<Tone>) -> usize
     requires pitches { note.pitches ≡ length (note_pitches token.now) }
     requires articulations { note.articulations ≡ length (articulations_of (items token.now)) }
