@@ -1,16 +1,14 @@
 -- The entries of a list laid in a lent array.
 use mathlib.Core.Path.{◌≡◌, refl, sym, ap, ap₂, ◌∙◌}
-use Prim.Native.Nat.{ℕ, suc, ◌+◌, ◌*◌, ◌≤◌, ◌<◌}
+use Prim.Native.Nat.{ℕ, ◌+◌, ◌-◌, ◌*◌, ◌≤◌, ◌<◌}
 use native.Mathlib.Numerals.{add-one}
 use native.Mathlib.Omega.{arith}
-use mathlib.Core.List.{List, [], ◌∷◌, ◌++◌}
-use lib.ListN.{length, get_or, take, drop, set, length-set}
-use lib.Seq.{sets, sets-eq, take_at, take-suc, get_or-take, drop-append-add, drop-drop, take_all, length-take-le}
+use mathlib.Core.List.{List, [], ◌∷◌, ◌++◌, append_assoc}
+use lib.ListN.{length, get_or, take, drop}
+use lib.Seq.{take_at, drop_at, take-suc, drop-drop, take_all, length-take-le}
 use borrow.Author.Tests.{le-leb}
 use Rattle.slices.specs.Store.{stored}
-use Rattle.holders.specs.Walk.{Kept}
 use Rattle.holders.specs.declared.Holder.{Holder}
-use Rattle.holders.specs.declared.Holders.{Holders}
 use Rattle.kern_ffi.specs.Answer.{entry_numbers}
 
 numbers_length : (xs : List Holder) → length (entry_numbers xs) ≡ 3 * length xs
@@ -23,79 +21,48 @@ unfolding entry_numbers
 numbers_append [] ys = refl
 numbers_append (x ∷ xs) ys = ap (λ (l : List ℕ). x.column ∷ x.voice ∷ x.header ∷ l) (numbers_append xs ys)
 
--- the first i of them stand in the array
-pub record Laying (old : List ℕ) (list : List Holder) (count : ℕ) (lines : List ℕ) (i : ℕ) : Type 0 where
-  pub high : i ≤ count
-  pub few : count ≤ 5
-  pub room : length list ≡ 5
-  pub size : length lines ≡ 15
-  pub same : lines ≡ entry_numbers (take i (take count list)) ++ drop (3 * i) old
+-- the first i entries stand in the array
+pub record Laid (old : List ℕ) (entries : List Holder) (lines : List ℕ) (i : ℕ) : Type 0 where
+  pub same : lines ≡ entry_numbers (take i entries) ++ drop (3 * i) old
 
-pub laying_first : (old : List ℕ) {held : Holders} → length old ≡ 15 → Kept held → Laying old held.list held.count old 0
+pub laid_first : (old : List ℕ) (entries : List Holder) → Laid old entries old 0
 unfolding entry_numbers
-laying_first old {held} l k = record { high = omega arith; few = k.few; room = k.room; size = l; same = refl }
+laid_first old entries = record { same = refl }
 
-module _ {old : List ℕ} {list : List Holder} {count : ℕ} {lines : List ℕ} {i : ℕ} (inv : Laying old list count lines i) where
-  abbrev all : List Holder
-  all = take count list
+first_long : (entries : List Holder) (i : ℕ) → i ≤ length entries → length (entry_numbers (take i entries)) ≡ 3 * i
+first_long entries i h = numbers_length (take i entries) ∙ ap (λ (n : ℕ). 3 * n) (length-take-le i entries h)
 
-  long : length all ≡ count
-  long = length-take-le count list (omega (arith, inv.few, inv.room))
-
-  first_long : length (entry_numbers (take i all)) ≡ 3 * i
-  first_long = numbers_length (take i all) ∙ ap (λ (n : ℕ). 3 * n) (length-take-le i all (omega (arith, inv.high, long)))
-
-  pub laying_turn : (d : Holder) → i < count
-      → Laying old list count (set (set (set lines (3 * i) (get_or list i d).column) (3 * i + 1) (get_or list i d).voice) (3 * i + 2) (get_or list i d).header) (i + 1)
-  unfolding entry_numbers
-  laying_turn d h = record {
-    high = omega arith;
-    few = inv.few;
-    room = inv.room;
-    size = length-set (set (set lines (3 * i) x.column) (3 * i + 1) x.voice) (3 * i + 2) x.header ∙ length-set (set lines (3 * i) x.column) (3 * i + 1) x.voice ∙ length-set lines (3 * i) x.column ∙ inv.size;
-    same = stores ∙ sets-eq values lines (3 * i) room ∙ parts;
+module _ {old : List ℕ} {entries : List Holder} {lines : List ℕ} {i : ℕ} (inv : Laid old entries lines i) where
+  pub laid_turn : {values : List ℕ} (d : Holder) → i < length entries → values ≡ entry_numbers (get_or entries i d ∷ [])
+      → Laid old entries (take (3 * i) lines ++ (values ++ drop (3 * i + 3 - 3 * i) (drop (3 * i) lines))) (i + 1)
+  laid_turn {values} d h e = record {
+    same = ap₂ (λ (a b : List ℕ). a ++ (values ++ b)) front back ∙ sym (append_assoc (entry_numbers (take i entries)) values (drop (3 * (i + 1)) old))
+        ∙ ap (λ (l : List ℕ). l ++ drop (3 * (i + 1)) old) (sym more);
   }
     where
-      x : Holder
-      x = get_or list i d
+      long : length (entry_numbers (take i entries)) ≡ 3 * i
+      long = first_long entries i (omega (arith, h))
 
-      values : List ℕ
-      values = x.column ∷ x.voice ∷ x.header ∷ []
+      front : take (3 * i) lines ≡ entry_numbers (take i entries)
+      front = ap (take (3 * i)) inv.same ∙ take_at (entry_numbers (take i entries)) (drop (3 * i) old) (3 * i) long
 
-      one : 3 * i + 1 ≡ suc (3 * i)
-      one = add-one (3 * i)
-
-      two : 3 * i + 2 ≡ suc (suc (3 * i))
-      two = omega arith
-
-      stores : set (set (set lines (3 * i) x.column) (3 * i + 1) x.voice) (3 * i + 2) x.header ≡ sets lines (3 * i) values
-      stores = rw (one, two)
-
-      room : 3 * i + length values ≤ length lines
-      room = let three : length values ≡ 3 = refl in omega (arith, three, inv.size, inv.few)
-
-      front : take (3 * i) lines ≡ entry_numbers (take i all)
-      front = ap (take (3 * i)) inv.same ∙ take_at (entry_numbers (take i all)) (drop (3 * i) old) (3 * i) first_long
-
-      back : drop (3 * i + length values) lines ≡ drop (3 * (i + 1)) old
+      back : drop (3 * i + 3 - 3 * i) (drop (3 * i) lines) ≡ drop (3 * (i + 1)) old
       back =
-          let three : length values ≡ 3 = refl in
-          let y : 3 * i + length values ≡ 3 * (i + 1) = omega (arith, three) in
-          ap (drop (3 * i + length values)) inv.same ∙ ap (λ (n : ℕ). drop (n + length values) (entry_numbers (take i all) ++ drop (3 * i) old)) (sym first_long)
-          ∙ drop-append-add (entry_numbers (take i all)) (drop (3 * i) old) (length values) ∙ drop-drop (length values) (3 * i) old ∙ ap (λ (n : ℕ). drop n old) y
+          let three : 3 * i + 3 - 3 * i ≡ 3 = omega arith in
+          let y : 3 * i + 3 ≡ 3 * (i + 1) = omega arith in
+          ap (λ (n : ℕ). drop n (drop (3 * i) lines)) three
+          ∙ ap (drop 3) (ap (drop (3 * i)) inv.same ∙ drop_at (entry_numbers (take i entries)) (drop (3 * i) old) (3 * i) long)
+          ∙ drop-drop 3 (3 * i) old ∙ ap (λ (n : ℕ). drop n old) y
 
-      more : entry_numbers (take (i + 1) all) ≡ entry_numbers (take i all) ++ values
+      more : entry_numbers (take (i + 1) entries) ≡ entry_numbers (take i entries) ++ values
       more =
-          ap (λ (n : ℕ). entry_numbers (take n all)) (add-one i)
-          ∙ ap entry_numbers (take-suc all i d (omega (arith, long)) ∙ ap (λ (y : Holder). take i all ++ (y ∷ [])) (get_or-take count list i d h))
-          ∙ numbers_append (take i all) (x ∷ [])
+          ap (λ (n : ℕ). entry_numbers (take n entries)) (add-one i)
+          ∙ ap entry_numbers (take-suc entries i d h)
+          ∙ numbers_append (take i entries) (get_or entries i d ∷ []) ∙ ap (λ (l : List ℕ). entry_numbers (take i entries) ++ l) (sym e)
 
-      parts : (take (3 * i) lines ++ values) ++ drop (3 * i + length values) lines ≡ entry_numbers (take (i + 1) all) ++ drop (3 * (i + 1)) old
-      parts = ap₂ (λ (a b : List ℕ). (a ++ values) ++ b) front back ∙ ap (λ (l : List ℕ). l ++ drop (3 * (i + 1)) old) (sym more)
-
-  pub laying_past : length old ≡ 15 → count ≤ i → lines ≡ stored old (entry_numbers all)
+  pub laid_past : i ≡ length entries → 3 * length entries ≤ length old → lines ≡ stored old (entry_numbers entries)
   unfolding stored
-  laying_past l h =
-      let whole : take i all ≡ all = take_all i all (omega (arith, long)) in
-      let size : length (entry_numbers all) ≡ 3 * i = sym (ap (λ (xs : List Holder). length (entry_numbers xs)) whole) ∙ first_long in
-      rw (le-leb (length (entry_numbers all)) (length old) (omega (arith, inv.high, inv.few)), size) (rw whole at inv.same)
+  laid_past e h =
+      let whole : take i entries ≡ entries = take_all i entries (omega (arith, e)) in
+      let size : length (entry_numbers entries) ≡ 3 * i = numbers_length entries ∙ ap (λ (n : ℕ). 3 * n) (sym e) in
+      rw (le-leb (length (entry_numbers entries)) (length old) (omega (arith, size, e, h)), size) (rw whole at inv.same)

@@ -1,7 +1,7 @@
 // The lines that fill a staff, for C and Rust.
-ghost use Rattle.std.specs.Prelude.{◌≡◌, ◌<◌, ◌^◌, length};
+ghost use Rattle.std.specs.Prelude.{◌≡◌, [], ◌∷◌, ◌≤◌, ◌<◌, ◌^◌, length};
 ghost use Rattle.slices.specs.Store.{stored};
-ghost use Rattle.holders.specs.Walk.{listed, Kept};
+ghost use Rattle.holders.specs.Walk.{listed};
 ghost use Rattle.staff.specs.Filling.{filling_of};
 ghost use Rattle.reading.specs.Text.{answer_of, buffer_of};
 ghost use Rattle.account.specs.Joins.{OneOrigin};
@@ -9,23 +9,27 @@ ghost use Rattle.account.specs.Reached.{Question8, Question17};
 ghost use Rattle.demand.specs.Played.{Played};
 ghost use Rattle.kern_ffi.specs.Answer.{number_of, figure_of, three_of, entry_numbers};
 
-use holders::Holders;
+use holders::{Holder, Holders};
+
+// The numbers of an entry: its column, its voice, and the part's header column.
+#[tactic(auto, unfolding(crate::specs::Answer::entry_numbers))]
+fn entry_numbers(holder: Holder) -> [u64; 3]
+    ensures { result ≡ entry_numbers (holder ∷ []) }
+{
+    [
+        holder.column as u64,
+        holder.voice as u64,
+        holder.header as u64,
+    ]
+}
 
 // The entries of a list at the start of a lent array, three numbers each.
-fn put_lines(lines: &mut [u64], held: Holders)
-    requires { (length lines.old ≡ 15) × Kept held }
-    ensures { lines.new ≡ stored lines.old (entry_numbers (listed held)) }
+fn put_lines(lines: &mut [u64; 15], entries: &[Holder])
+    requires { length entries.now ≤ 5 }
+    ensures { lines.new ≡ stored lines.old (entry_numbers entries.now) }
 {
-    let list = held.list;
-    let n = held.count;
-    let mut i = 0;
-    while i < n {
-        let holder = list[i];
-        let at = 3 * i;
-        lines[at] = holder.column as u64;
-        lines[at + 1] = holder.voice as u64;
-        lines[at + 2] = holder.header as u64;
-        i += 1;
+    for (i, holder) in entries.iter().enumerate() {
+        lines[3 * i..3 * i + 3].copy_from_slice(&entry_numbers(*holder));
     }
 }
 
@@ -49,6 +53,7 @@ pub extern "C" fn kern_read_lines(
     ensures lines { lines.new ≡ stored lines.old (entry_numbers (filling_of text.now)) }
 {
     let explained = staff::read_with_lines(text, out);
-    put_lines(lines, explained.lines);
+    let Holders { count, list } = explained.lines;
+    put_lines(lines, &list[..count]);
     crate::put_answer(answer, explained.answer)
 }
