@@ -10,17 +10,14 @@ use pitch::Pitch;
 use reference::Key;
 use std::io::{self, BufRead, BufReader};
 
-// The number that digits write, 0 where they write none.
-fn number_of(digits: &[u8]) -> u32 {
-    match str::from_utf8(digits) {
-        Ok(text) => text.parse().unwrap_or(0),
-        Err(_) => 0,
-    }
+// The number that digits write.
+fn number_of(digits: &[u8]) -> Option<u32> {
+    str::from_utf8(digits).ok()?.parse().ok()
 }
 
-// The same of a number below 256.
-fn small_number(digits: &[u8]) -> u8 {
-    u8::try_from(number_of(digits)).unwrap_or(0)
+// The same of a byte.
+fn byte_of(digits: &[u8]) -> Option<u8> {
+    u8::try_from(number_of(digits)?).ok()
 }
 
 // D: digits, to value, actual, normal.
@@ -127,25 +124,35 @@ fn reference_of(rt: &impl Print, record: &[u8]) -> io::Result<()> {
 }
 
 // N: a notice's number, to its code and reason.
-fn notice_of(rt: &impl Print, number: u8) -> io::Result<()> {
+fn notice_of(rt: &impl Print, body: &[u8]) -> io::Result<()> {
+    let Some(number) = byte_of(body) else {
+        return print!(rt; "?");
+    };
     let code = notice::code(number).unwrap_or("");
     let reason = notice::reason(number).unwrap_or("");
     print!(rt; "{code}|{reason}")
 }
 
 // S: a part, to the name it has where none is given.
-fn name_of(rt: &impl Print, part: u8) -> io::Result<()> {
+fn name_of(rt: &impl Print, body: &[u8]) -> io::Result<()> {
+    let Some(part) = byte_of(body) else {
+        return print!(rt; "?");
+    };
     let fallback = SpineName::new(part);
     rt.write_all(names::part_name(b"", None, fallback.as_bytes()))
 }
 
 // H: ticks, divisions, the voice's notes and the buffer's length, to the answer, and value, actual and normal of each rest.
 fn hole_of(rt: &(impl Print + AllocGlobal), body: &[u8]) -> io::Result<()> {
-    let mut numbers = body.split(|b| *b == b' ').map(|digits| number_of(digits));
-    let ticks = numbers.next().unwrap_or(0);
-    let divisions = numbers.next().unwrap_or(0);
-    let notes = numbers.next().unwrap_or(0);
-    let room = numbers.next().unwrap_or(0);
+    let mut numbers = body.split(|b| *b == b' ').filter_map(number_of);
+    let (Some(ticks), Some(divisions), Some(notes), Some(room)) = (
+        numbers.next(),
+        numbers.next(),
+        numbers.next(),
+        numbers.next(),
+    ) else {
+        return print!(rt; "?");
+    };
     let mut rests = vec![in rt.alloc(); 0u8; room as usize]?;
     match gap::gap_rests(ticks, divisions, notes, &mut rests) {
         Ok(long) => {
@@ -173,8 +180,8 @@ fn answer(rt: &(impl Print + AllocGlobal), request: &[u8]) -> io::Result<()> {
         b'B' => barlines_of(rt, body),
         b'I' => interpretation_of(rt, body, false),
         b'J' => interpretation_of(rt, body, true),
-        b'N' => notice_of(rt, small_number(body)),
-        b'S' => name_of(rt, small_number(body)),
+        b'N' => notice_of(rt, body),
+        b'S' => name_of(rt, body),
         b'H' => hole_of(rt, body),
         _ => print!(rt; "?"),
     }
