@@ -110,6 +110,7 @@ fn give(cells: &mut [u16], masks: &mut [u8; 8192]) -> Result<(), Stop>
 fn settle(row: &mut [u16; 512], cells: &mut [u16], masks: &mut [u8; 8192]) -> Result<usize, Stop>
     ensures outcome { outcome_of result row.new ≡ narrow (voice_row (row_of cells.old)) }
     ensures few { active_after result ≤ 256 }
+    ensures room { length row.new ≡ 512 }
 {
     let count = cells.len();
     clear(cells, masks);
@@ -149,12 +150,13 @@ pub struct Rows {
     pub row: [u16; 512],
     pub next: [u16; 512],
     pub masks: [u8; 8192],
+    pub ghost room: { length row ≡ 512 },
 }
 
 impl Rows {
     // Before any record: no cell is a part's.
     pub fn empty() -> Rows
-        ensures { result ≡ record { row = replicate 512 0; next = replicate 512 0; masks = replicate 8192 0 } }
+        ensures { (result.row ≡ replicate 512 0) × ((result.next ≡ replicate 512 0) × (result.masks ≡ replicate 8192 0)) }
     {
         Rows {
             row: [0; 512],
