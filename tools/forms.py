@@ -87,7 +87,7 @@ def count(files):
                 places['3 loop by hand'].append(f'{where}:{i}')
             if re.search(r'/ \d+ % 256\) as u8|% 256\) as u8', code):
                 places['4 byte of a number by hand'].append(f'{where}:{i}')
-            if re.match(r'\s*#\[derive\(Clone, Copy\)\]', code):
+            if re.match(r'\s*#\[derive\((?!.*PartialEq)', code):
                 places['4 type with no derived equality'].append(f'{where}:{i}')
             if re.search(r'io::(?:print_decimal|write_all|read_full)', code):
                 places['4 printing and reading by hand'].append(f'{where}:{i}')
