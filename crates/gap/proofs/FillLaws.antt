@@ -32,8 +32,8 @@ unfolding fill_from
 fill_done zero d = refl
 fill_done (suc free) d = refl
 
-pub hole_done : (h : Hole) → h.left ≡ 0 → fill_hole h ≡ Ok []
-hole_done h e = ap (fill_from h.room h.divisions) e ∙ fill_done h.room h.divisions
+pub hole_done : (h : Hole) → h.left.ticks ≡ 0 → fill_hole h ≡ Ok []
+hole_done h e = ap (fill_from h.room h.left.divisions) e ∙ fill_done h.room h.left.divisions
 
 module _ (d left : ℕ) (some : left ≡ 0 → ⊥) where
   pub fill_none : (free : ℕ) → next_rest d left ≡ None → fill_from free d left ≡ Err NoValue
@@ -109,7 +109,7 @@ pub record Writing (all out : List ℕ) (now : Hole) (at : ℕ) : Type 0 where
   pub room : at + length (rests_bytes rests) ≤ length out
   pub whole : sets out at (rests_bytes rests) ≡ all
 
-pub writing_first : {h : Hole} {out : List ℕ} → Filling h.room h.divisions h.left out → Writing (laid (fill_hole h) out) out h 0
+pub writing_first : {h : Hole} {out : List ℕ} → Filling h.room h.left.divisions h.left.ticks out → Writing (laid (fill_hole h) out) out h 0
 writing_first {h} {out} f = record {
   rests = f.rests;
   same = f.same;

@@ -51,7 +51,7 @@ fill_from (suc room) divisions ticks =
     ])
 
 abbrev pub fill_hole : Hole → Fill
-fill_hole h = fill_from h.room h.divisions h.left
+fill_hole h = fill_from h.room h.left.divisions h.left.ticks
 
 -- how many rests, with n before them
 abbrev pub counted : ℕ → Fill → Result ℕ Refusal
@@ -75,8 +75,8 @@ pub record Filling (room divisions ticks : ℕ) (out : List ℕ) : Type 0 where
 -- a rest taken out of a hole leaves the rest of it, in a voice with one note more
 pub record Leaves (old new : Hole) (rest : Rest) : Type 0 where
   pub fills : fill_hole old ≡ more (rest_note rest) (fill_hole new)
-  pub divisions : new.divisions ≡ old.divisions
-  pub left : new.left + rest.ticks ≡ old.left
+  pub divisions : new.left.divisions ≡ old.left.divisions
+  pub left : new.left.ticks + rest.ticks ≡ old.left.ticks
   pub room : new.room + 1 ≡ old.room
 
 -- what comes out of a hole: a rest, nothing where it is filled, or why it is turned away

@@ -47,6 +47,7 @@ impl Refusal {
 }
 
 // A rest with the ticks that it takes: a value, in a tuplet unless actual and normal are 0.
+// Stays: the 0, 0 of no tuplet are the NOTE's own bytes, which a rest becomes; a `Value` here would only be taken apart again.
 #[derive(Clone, Copy, PartialEq, Eq, Debug)]
 struct Rest {
     value: u8,
@@ -55,146 +56,153 @@ struct Rest {
     ticks: u32,
 }
 
-// What is left of a hole, and how many more notes its voice may have.
-#[derive(Clone, Copy)]
-struct Hole {
+// A time: so many ticks, at so many divisions to the quarter.
+#[derive(Clone, Copy, PartialEq, Eq, Debug)]
+struct Time {
     divisions: u32,
-    left: u32,
+    ticks: u32,
+}
+
+// What is left of a hole, and how many more notes its voice may have.
+#[derive(Clone, Copy, PartialEq, Eq, Debug)]
+struct Hole {
+    left: Time,
     room: u32,
 }
 
-// The ticks of a value; None where they are no whole number from 1 up to 2^32 - 1.
-fn ticks_of(divisions: u32, value: u8) -> Option<u32>
-    requires { value < 10 }
-    ensures { result ≡ ticks_of divisions value }
-{
-    let all = u64::from(divisions) * 16;
-    let unit = 1u64 << value;
-    if all == 0 || all % unit != 0 {
-        return None;
-    }
-    u32::try_from(all / unit).ok()
-}
-
-// A value in a triplet that lasts all the ticks.
-fn triplet_by(divisions: u32, ticks: u32, value: u8) -> Option<Rest>
-    requires { value < 10 }
-    ensures { result ≡ triplet_by divisions ticks value }
-{
-    let base = ticks_of(divisions, value)?;
-    if u64::from(base) * 2 != u64::from(ticks) * 3 {
-        return None;
-    }
-    Some(Rest {
-        value,
-        actual: 3,
-        normal: 2,
-        ticks,
-    })
-}
-
-// A longer value in a tuplet that lasts all the ticks.
-fn tuplet_by(divisions: u32, ticks: u32, value: u8) -> Option<Rest>
-    requires { value < 10 }
-    ensures { result ≡ tuplet_by divisions ticks value }
-{
-    let base = ticks_of(divisions, value)?;
-    if base <= ticks {
-        return None;
-    }
-    let divisor = duration::gcd(base, ticks);
-    let actual = u8::try_from(base / divisor).ok()?;
-    let normal = u8::try_from(ticks / divisor).ok()?;
-    Some(Rest {
-        value,
-        actual,
-        normal,
-        ticks,
-    })
-}
-
-// A value that fits.
-fn plain_by(divisions: u32, ticks: u32, value: u8) -> Option<Rest>
-    requires { value < 10 }
-    ensures { result ≡ plain_by divisions ticks value }
-{
-    let base = ticks_of(divisions, value)?;
-    if ticks < base {
-        return None;
-    }
-    Some(Rest {
-        value,
-        actual: 0,
-        normal: 0,
-        ticks: base,
-    })
-}
-
-// The longest value that serves in a triplet.
-fn triplet(divisions: u32, ticks: u32) -> Option<Rest>
-    ensures { result ≡ longest (triplet_by divisions ticks) }
-{
-    (0..10).find_map(|value| triplet_by(divisions, ticks, value))
-}
-
-// Whether a value lasts just the ticks.
-fn is_exact(divisions: u32, ticks: u32) -> bool
-    ensures { result ≡ is_exact divisions ticks 10 0 }
-{
-    (0..10).any(|value| ticks_of(divisions, value) == Some(ticks))
-}
-
-// The shortest value that serves in a tuplet, where no value lasts just the ticks.
-fn tuplet(divisions: u32, ticks: u32) -> Option<Rest>
-    ensures { result ≡ tuplet_of divisions ticks }
-{
-    if is_exact(divisions, ticks) {
-        return None;
-    }
-    (0..10)
-        .rev()
-        .find_map(|value| tuplet_by(divisions, ticks, value))
-}
-
-// The longest value that fits.
-fn plain(divisions: u32, ticks: u32) -> Option<Rest>
-    ensures { result ≡ longest (plain_by divisions ticks) }
-{
-    let mut value = 0;
-    // Stays: a rule of the project asks for a loop that yields the chosen value by break.
-    let rest = loop {
-        if value == 10 {
+impl Time {
+    // The ticks of a value; None where they are no whole number from 1 up to 2^32 - 1.
+    // Stays: that a value is below 10 stands in four contracts; a type that says it would be made of each number of the ranges 0..10 below.
+    fn ticks_of(self, value: u8) -> Option<u32>
+        requires { value < 10 }
+        ensures { result ≡ ticks_of self.divisions value }
+    {
+        let all = u64::from(self.divisions) * 16;
+        let unit = 1u64 << value;
+        if all == 0 || all % unit != 0 {
             return None;
         }
-        if let Some(rest) = plain_by(divisions, ticks, value) {
-            break rest;
+        u32::try_from(all / unit).ok()
+    }
+
+    // A value in a triplet that lasts all the ticks.
+    fn triplet_by(self, value: u8) -> Option<Rest>
+        requires { value < 10 }
+        ensures { result ≡ triplet_by self.divisions self.ticks value }
+    {
+        let base = self.ticks_of(value)?;
+        if u64::from(base) * 2 != u64::from(self.ticks) * 3 {
+            return None;
         }
-        value += 1;
-    };
-    Some(rest)
-}
+        Some(Rest {
+            value,
+            actual: 3,
+            normal: 2,
+            ticks: self.ticks,
+        })
+    }
 
-// The next rest: a triplet, else one tuplet, else the longest value that fits.
-fn search_rest(divisions: u32, ticks: u32) -> Option<Rest>
-    ensures { result ≡ next_rest divisions ticks }
-{
-    triplet(divisions, ticks)
-        .or_else(|| tuplet(divisions, ticks))
-        .or_else(|| plain(divisions, ticks))
-}
+    // A longer value in a tuplet that lasts all the ticks.
+    fn tuplet_by(self, value: u8) -> Option<Rest>
+        requires { value < 10 }
+        ensures { result ≡ tuplet_by self.divisions self.ticks value }
+    {
+        let base = self.ticks_of(value)?;
+        if base <= self.ticks {
+            return None;
+        }
+        let divisor = duration::gcd(base, self.ticks);
+        let actual = u8::try_from(base / divisor).ok()?;
+        let normal = u8::try_from(self.ticks / divisor).ok()?;
+        Some(Rest {
+            value,
+            actual,
+            normal,
+            ticks: self.ticks,
+        })
+    }
 
-// The same; of more ticks than a longa has, no value but the longa serves.
-fn next_rest(divisions: u32, ticks: u32) -> Option<Rest>
-    ensures { result ≡ next_rest divisions ticks }
-{
-    match ticks_of(divisions, 0) {
-        Some(longa) if longa < ticks => Some(Rest {
-            value: 0,
+    // A value that fits.
+    fn plain_by(self, value: u8) -> Option<Rest>
+        requires { value < 10 }
+        ensures { result ≡ plain_by self.divisions self.ticks value }
+    {
+        let base = self.ticks_of(value)?;
+        if self.ticks < base {
+            return None;
+        }
+        Some(Rest {
+            value,
             actual: 0,
             normal: 0,
-            ticks: longa,
-        }),
-        _ => search_rest(divisions, ticks),
+            ticks: base,
+        })
+    }
+
+    // The longest value that serves in a triplet.
+    fn triplet(self) -> Option<Rest>
+        ensures { result ≡ longest (triplet_by self.divisions self.ticks) }
+    {
+        (0..10).find_map(|value| self.triplet_by(value))
+    }
+
+    // Whether a value lasts just the ticks.
+    fn is_exact(self) -> bool
+        ensures { result ≡ is_exact self.divisions self.ticks 10 0 }
+    {
+        (0..10).any(|value| self.ticks_of(value) == Some(self.ticks))
+    }
+
+    // The shortest value that serves in a tuplet, where no value lasts just the ticks.
+    fn tuplet(self) -> Option<Rest>
+        ensures { result ≡ tuplet_of self.divisions self.ticks }
+    {
+        if self.is_exact() {
+            return None;
+        }
+        (0..10).rev().find_map(|value| self.tuplet_by(value))
+    }
+
+    // The longest value that fits.
+    fn plain(self) -> Option<Rest>
+        ensures { result ≡ longest (plain_by self.divisions self.ticks) }
+    {
+        let mut value = 0;
+        // Stays: a rule of the project asks for a loop that yields the chosen value by break.
+        let rest = loop {
+            if value == 10 {
+                return None;
+            }
+            if let Some(rest) = self.plain_by(value) {
+                break rest;
+            }
+            value += 1;
+        };
+        Some(rest)
+    }
+
+    // The next rest: a triplet, else one tuplet, else the longest value that fits.
+    fn search_rest(self) -> Option<Rest>
+        ensures { result ≡ next_rest self.divisions self.ticks }
+    {
+        self.triplet()
+            .or_else(|| self.tuplet())
+            .or_else(|| self.plain())
+    }
+
+    // The same; of more ticks than a longa has, no value but the longa serves.
+    fn next_rest(self) -> Option<Rest>
+        ensures { result ≡ next_rest self.divisions self.ticks }
+    {
+        match self.ticks_of(0) {
+            Some(longa) if longa < self.ticks => Some(Rest {
+                value: 0,
+                actual: 0,
+                normal: 0,
+                ticks: longa,
+            }),
+            _ => self.search_rest(),
+        }
     }
 }
 
@@ -203,24 +211,24 @@ impl Hole {
     fn take(&mut self) -> Result<Option<Rest>, Refusal>
         ensures { Taken self.old self.new result }
     {
-        if self.left == 0 {
+        if self.left.ticks == 0 {
             return Ok(None);
         }
-        let Some(rest) = next_rest(self.divisions, self.left) else {
+        let Some(rest) = self.left.next_rest() else {
             return Err(Refusal::NoValue);
         };
         if self.room == 0 {
             return Err(Refusal::Full);
         }
         self.room -= 1;
-        self.left -= rest.ticks;
+        self.left.ticks -= rest.ticks;
         Ok(Some(rest))
     }
 }
 
 // How many rests fill a hole.
 fn count_rests(mut hole: Hole) -> Result<usize, Refusal>
-    ensures { result ≡ counted 0 (fill_from hole.room hole.divisions hole.left) }
+    ensures { result ≡ counted 0 (fill_from hole.room hole.left.divisions hole.left.ticks) }
 {
     let mut n = 0;
     while hole.take()?.is_some() {
@@ -253,8 +261,8 @@ fn put_rest(out: &mut [u8], rest: Rest)
 
 // The rests that fill a hole, into a buffer that has room for them.
 fn write_rests(mut hole: Hole, out: &mut [u8])
-    requires { Filling hole.room hole.divisions hole.left out.old }
-    ensures { out.new ≡ laid (fill_from hole.room hole.divisions hole.left) out.old }
+    requires { Filling hole.room hole.left.divisions hole.left.ticks out.old }
+    ensures { out.new ≡ laid (fill_from hole.room hole.left.divisions hole.left.ticks) out.old }
 {
     let mut at = 0;
     while let Ok(Some(rest)) = hole.take() {
@@ -272,8 +280,7 @@ pub fn gap_rests(ticks: u32, divisions: u32, notes: u32, out: &mut [u8]) -> Resu
     ensures filled { OnOk result (FilledWith ticks divisions out.old out.new) }
 {
     let hole = Hole {
-        divisions,
-        left: ticks,
+        left: Time { divisions, ticks },
         room: 50000u32.saturating_sub(notes),
     };
     let long = count_rests(hole)? * 28;

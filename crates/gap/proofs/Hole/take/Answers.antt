@@ -8,21 +8,21 @@ pub returns-then-self-eq0 : goal.returns-then-self-eq0
 returns-then-self-eq0 c = hole_done c.args.self.now c.if-self-eq0.true
 
 pub returns-in_default : goal.returns-in_default
-returns-in_default c = let h = c.args.self.now in fill_none h.divisions h.left c.if-self-eq0.false h.room (sym c.next_rest.ensures ∙ c.in_default.is)
+returns-in_default c = let h = c.args.self.now in fill_none h.left.divisions h.left.ticks c.if-self-eq0.false h.room (sym c.next_rest.ensures ∙ c.in_default.is)
 
 pub returns-then-self-eq0-2 : goal.returns-then-self-eq0-2
 returns-then-self-eq0-2 c = let h = c.args.self.now in
-    fill_full h.divisions h.left c.if-self-eq0.false (sym c.next_rest.ensures ∙ c.in-Some.is) h.room c.if-self-eq0-2.true
+    fill_full h.left.divisions h.left.ticks c.if-self-eq0.false (sym c.next_rest.ensures ∙ c.in-Some.is) h.room c.if-self-eq0-2.true
 
 pub overflow_sub-self-2 : goal.overflow_sub-self-2
-overflow_sub-self-2 c = let h = c.args.self.now in (takes h.divisions h.left c.if-self-eq0.false (sym c.next_rest.ensures ∙ c.in-Some.is)).high
+overflow_sub-self-2 c = let h = c.args.self.now in (takes h.left.divisions h.left.ticks c.if-self-eq0.false (sym c.next_rest.ensures ∙ c.in-Some.is)).high
 
 pub returns : goal.returns
 returns c = let h = c.args.self.now in
     let is = sym c.next_rest.ensures ∙ c.in-Some.is in
     record {
-      fills = fill_more h.divisions h.left c.if-self-eq0.false is h.room c.if-self-eq0-2.false;
+      fills = fill_more h.left.divisions h.left.ticks c.if-self-eq0.false is h.room c.if-self-eq0-2.false;
       divisions = refl;
-      left = omega (arith, (takes h.divisions h.left c.if-self-eq0.false is).high);
+      left = omega (arith, (takes h.left.divisions h.left.ticks c.if-self-eq0.false is).high);
       room = omega (arith, c.if-self-eq0-2.false);
     }

@@ -3,8 +3,8 @@ use mathlib.Core.Path.{ap, ◌∙◌}
 use Prim.Native.Nat.{ℕ, ◌*◌}
 use lib.Pow.{pow_pos}
 use Rattle.gap.proofs.ValueLaws.{unit_is, ticks_none, ticks_broken, ticks_by}
-use Rattle.gap.proofs.ticks_of.Goals as goal
-use Rattle.gap.proofs.ticks_of.Goals.{then-all-eq0-via-then-all-eq0, then-all-eq0-via-else-all-eq0+then-all-unit-ne0}
+use Rattle.gap.proofs.Time.ticks_of.Goals as goal
+use Rattle.gap.proofs.Time.ticks_of.Goals.{then-all-eq0-via-then-all-eq0, then-all-eq0-via-else-all-eq0+then-all-unit-ne0}
 
 pub nonzero_rem-all : goal.nonzero_rem-all
 nonzero_rem-all c = rw (unit_is c.args.value c.requires) (pow_pos c.args.value)
@@ -14,8 +14,8 @@ returns-then-all-eq0 c =
     let is_all = ap (λ (n : ℕ). n * 16) c.from-all.ensures in
     let unit = unit_is c.args.value c.requires in
     elim c.then-all-eq0.branch [
-      | then-all-eq0-via-then-all-eq0 w ↦ ticks_none c.args.divisions c.args.value is_all unit w.if-all-eq0.true
-      | then-all-eq0-via-else-all-eq0+then-all-unit-ne0 w ↦ ticks_broken c.args.divisions c.args.value is_all unit w.if-all-unit-ne0.true
+      | then-all-eq0-via-then-all-eq0 w ↦ ticks_none c.args.self.divisions c.args.value is_all unit w.if-all-eq0.true
+      | then-all-eq0-via-else-all-eq0+then-all-unit-ne0 w ↦ ticks_broken c.args.self.divisions c.args.value is_all unit w.if-all-unit-ne0.true
     ]
 
 pub nonzero_div-all : goal.nonzero_div-all
@@ -24,4 +24,4 @@ nonzero_div-all c = rw (unit_is c.args.value c.requires) (pow_pos c.args.value)
 pub returns : goal.returns
 returns c =
     let is_all = ap (λ (n : ℕ). n * 16) c.from-all.ensures in
-    c.ok.ensures.value ∙ ticks_by c.args.divisions c.args.value is_all (unit_is c.args.value c.requires) c.try_from.result c.if-all-eq0.false c.if-all-unit-ne0.false c.try_from.ensures
+    c.ok.ensures.value ∙ ticks_by c.args.self.divisions c.args.value is_all (unit_is c.args.value c.requires) c.try_from.result c.if-all-eq0.false c.if-all-unit-ne0.false c.try_from.ensures

@@ -2,10 +2,10 @@
 use Prim.Native.Nat.{◌-◌}
 use Rattle.gap.specs.Values.{plain_by}
 use Rattle.gap.proofs.SearchLaws.{Search}
-use Rattle.gap.proofs.plain.Given as goal
+use Rattle.gap.proofs.Time.plain.Given as goal
 
 abbrev pub invariant-loop-value : goal.invariant-loop-value
-invariant-loop-value l = Search (plain_by l.fn.divisions l.fn.ticks) l.value
+invariant-loop-value l = Search (plain_by l.fn.self.divisions l.fn.self.ticks) l.value
 
 abbrev pub decreases-loop-value : goal.decreases-loop-value
 decreases-loop-value l = 10 - l.value

@@ -2,7 +2,7 @@
 use Rattle.std.proofs.Common.{rules}
 use mathlib.Core.Path.{sym, ◌∙◌}
 use Rattle.gap.proofs.SearchLaws.{search_past, search_turn, search_found}
-use Rattle.gap.proofs.plain.Goals as goal
+use Rattle.gap.proofs.Time.plain.Goals as goal
 
 pub returns-then-value-eq10 : goal.returns-then-value-eq10
 returns-then-value-eq10 c = search_past c.loop-value.invariant c.if-value-eq10.true

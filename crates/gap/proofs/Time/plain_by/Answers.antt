@@ -3,16 +3,16 @@ use mathlib.Core.Path.{◌∙◌}
 use native.Mathlib.Omega.{arith}
 use borrow.Author.Tests.{le-leb, lt-leb}
 use Rattle.gap.specs.Values.{plain_by}
-use Rattle.gap.proofs.plain_by.Goals as goal
+use Rattle.gap.proofs.Time.plain_by.Goals as goal
 
 pub returns-in_err-base : goal.returns-in_err-base
 unfolding plain_by
 returns-in_err-base c = c.from_residual.ensures ∙ rw (← c.ticks_of.ensures, c.in_err-base.was)
 
-pub returns-then-ticks-base : goal.returns-then-ticks-base
+pub returns-then-self-base : goal.returns-then-self-base
 unfolding plain_by
-returns-then-ticks-base c = rw (← c.ticks_of.ensures, c.in_ok-base.was, lt-leb c.in_ok-base.base c.args.ticks (omega arith))
+returns-then-self-base c = rw (← c.ticks_of.ensures, c.in_ok-base.was, lt-leb c.in_ok-base.base c.args.self.ticks (omega arith))
 
 pub returns : goal.returns
 unfolding plain_by
-returns c = rw (← c.ticks_of.ensures, c.in_ok-base.was, le-leb c.in_ok-base.base c.args.ticks c.if-ticks-base.false)
+returns c = rw (← c.ticks_of.ensures, c.in_ok-base.was, le-leb c.in_ok-base.base c.args.self.ticks c.if-self-base.false)
