@@ -27,7 +27,7 @@ use Rattle.refusal.specs.Numbers.{number_of, line_of, figure_of}
 use Rattle.refusal.specs.declared.Refusal.{Refusal}
 use Rattle.std.specs.Prelude.{Ok, Err, Result}
 use Rattle.state.specs.Lay.{laid, behind}
-use Rattle.state.specs.View.{Landed, state_of, stopped, going, ending, landed, told}
+use Rattle.state.specs.View.{Landed, state_of, stopped, going, landed, told}
 use Rattle.state.specs.Ready.{Ready}
 use Rattle.state.proofs.ViewLaws.{landed_behind}
 use Rattle.notes.specs.Spot.{Kept}
@@ -77,7 +77,7 @@ rest_past line row k offset from i st h =
 -- a column and what is left behind it
 rest_more : (line row : List ℕ) (k offset from i e : ℕ) (st : State) → i < length row → Piece 9 line from e
     → rest line row k offset from i st
-    ≡ notes.and_then (column_step line row (record { index = i; from = from; end = e; line = k; offset = offset }) st) (rest line row k offset (e + 1) (i + 1))
+    ≡ notes.and_then (column_step k offset line row (record { index = i; from = from; end = e }) st) (rest line row k offset (e + 1) (i + 1))
 unfolding notes.read_tokens placed column_step
 rest_more line row k offset from i e st h p =
     let all : List (List ℕ) = take (length row) (tokens_of line) in
@@ -89,7 +89,7 @@ rest_more line row k offset from i e st h p =
     ap (λ (s : List Spine). notes.read_tokens all kern k i s (placed (offset + from) (take (length row - i) (pieces 9 from line))) st) (row_drop row i h)
     ∙ ap₂ (λ (m : ℕ) (ts : List (List ℕ)). notes.read_tokens all kern k i (spine_of (get_or row i 0) ∷ row_of (drop (i + 1) row)) (placed (offset + from) (take m ts)) st) n p.here
     ∙ ap₂ (λ (j a : ℕ).
-    notes.and_then (column_step line row (record { index = i; from = from; end = e; line = k; offset = offset }) st)
+    notes.and_then (column_step k offset line row (record { index = i; from = from; end = e }) st)
     (notes.read_tokens all kern k j (row_of (drop (i + 1) row)) (placed a (take (length row - (i + 1)) (pieces 9 (e + 1) line)))))
     (sym (add-one i)) next
 
@@ -160,15 +160,15 @@ module _ {whole : Landed} {line row : List ℕ} {parts₀ : List Part} {out₀ :
       ∙ sym inv.same
 
   module _ {e : ℕ} (parts' : List Part) (out' : List ℕ) (r : Result Tally Refusal) (h : i < length row) (p : Piece 9 line from e)
-      (tells : told r row parts' out' ≡ landed (column_step line row (record { index = i; from = from; end = e; line = k; offset = offset }) (state_of row parts t)) out t.at)
+      (tells : told r row parts' out' ≡ landed (column_step k offset line row (record { index = i; from = from; end = e }) (state_of row parts t)) out t.at)
       (keeps : Kept t r) where
-    here : whole ≡ landed (notes.and_then (column_step line row (record { index = i; from = from; end = e; line = k; offset = offset }) (state_of row parts t)) (rest line row k offset (e + 1) (i + 1))) out t.at
+    here : whole ≡ landed (notes.and_then (column_step k offset line row (record { index = i; from = from; end = e }) (state_of row parts t)) (rest line row k offset (e + 1) (i + 1))) out t.at
     here = inv.same ∙ ap (λ (s : Step). landed s out t.at) (rest_more line row k offset from i e (state_of row parts t) h p)
 
     pub data_turn : {u : Tally} → r ≡ Ok u → length out' ≡ length out
         → Reading whole line row parts₀ out₀ t₀ k offset parts' out' u (e + 1) (i + 1)
     data_turn {u} q lo =
-        let tells' : going (state_of row parts' u) u.at out' ≡ landed (column_step line row (record { index = i; from = from; end = e; line = k; offset = offset }) (state_of row parts t)) out t.at
+        let tells' : going (state_of row parts' u) u.at out' ≡ landed (column_step k offset line row (record { index = i; from = from; end = e }) (state_of row parts t)) out t.at
         = ap (λ (s : Result Tally Refusal). told s row parts' out') (sym q) ∙ tells in
         let keeps' : Kept t (Ok u) = rw q at keeps in
         record {
@@ -177,7 +177,7 @@ module _ {whole : Landed} {line row : List ℕ} {parts₀ : List Part} {out₀ :
           kept = same_same inv.kept keeps';
           here = tokens_behind i inv.here p;
           same = here
-              ∙ then_goes (column_step line row (record { index = i; from = from; end = e; line = k; offset = offset }) (state_of row parts t)) (rest line row k offset (e + 1) (i + 1)) out out' t.at u.at (state_of row parts' u) tells';
+              ∙ then_goes (column_step k offset line row (record { index = i; from = from; end = e }) (state_of row parts t)) (rest line row k offset (e + 1) (i + 1)) out out' t.at u.at (state_of row parts' u) tells';
         }
 
     pub data_stops : {n : Refusal} → r ≡ Err n
@@ -186,4 +186,4 @@ module _ {whole : Landed} {line row : List ℕ} {parts₀ : List Part} {out₀ :
         let back : told r row parts' out' ≡ stopped (number_of n) (line_of n) (figure_of n) = ap (λ (s : Result Tally Refusal). told s row parts' out') q in
         back
         ∙ sym (here
-        ∙ then_stops (column_step line row (record { index = i; from = from; end = e; line = k; offset = offset }) (state_of row parts t)) (rest line row k offset (e + 1) (i + 1)) out t.at (number_of n) (line_of n) (figure_of n) (sym back ∙ tells))
+        ∙ then_stops (column_step k offset line row (record { index = i; from = from; end = e }) (state_of row parts t)) (rest line row k offset (e + 1) (i + 1)) out t.at (number_of n) (line_of n) (figure_of n) (sym back ∙ tells))

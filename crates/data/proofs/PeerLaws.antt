@@ -1,5 +1,5 @@
 -- What a bare column gets from its record: only as many tokens count as there are spines.
-use mathlib.Core.Path.{◌≡◌, refl, sym, ap, ap₂, subst, ◌∙◌}
+use mathlib.Core.Path.{◌≡◌, refl, sym, ap, ap₂, ◌∙◌}
 use Prim.Native.Nat.{ℕ, zero, suc, ◌+◌, ◌-◌, ◌/◌, ◌%◌, ◌≤◌, ◌<◌}
 use native.Mathlib.Nat.{not-suc-le-zero, le_of_suc-le-suc}
 use native.Mathlib.Omega.{arith}
@@ -7,11 +7,12 @@ use mathlib.Core.List.{List, [], ◌∷◌, map}
 use mathlib.Core.Bool.{Bool, true, false, cond, not, ◌&&◌}
 use lib.Dec.{eqb, ltb, leb}
 use lib.ListN.{length, take, get_or}
-use borrow.Author.Tests.{leb-true, leb-false, ltb-true, ltb-false, le-leb}
+use borrow.Author.Tests.{leb-true, leb-false, ltb-true, ltb-false}
 use Rattle.lines.specs.Tokens.{tokens_of}
 use Rattle.duration.specs.Duration.{duration_of}
 use Rattle.duration.specs.declared.Value.{Value}
-use Rattle.std.specs.Prelude.{Option, None}
+use Rattle.std.specs.Prelude.{Option}
+use Rattle.paths.specs.declared.Spine.TheVariants.{Line}
 use Rattle.peers.specs.Peers.{is_bare, peers_from, uniform, peer_reciprocal, kern_cells}
 use Rattle.peers.proofs.SummaryLaws.{bare_column}
 use Rattle.peers.proofs.OfferLaws.{no_value}
@@ -19,11 +20,9 @@ use Rattle.spines.specs.Cells.{spine_of, row_of}
 use Rattle.spines.proofs.CellLaws.{cell_outside, cell_line, cell_branch}
 use Rattle.reading.specs.Bars.{is_kern_spine}
 use Rattle.reading.specs.Notes.{inferred_for}
-use Rattle.data.specs.declared.Asked.{Asked}
-use Rattle.data.specs.declared.Asked.TheVariants.{Unasked, Given}
 use Rattle.data.specs.declared.Column.{Column}
-use Rattle.data.specs.Column.{token_in}
-use Rattle.data.specs.Asked.{agreed_in, RightlyAsked, asked_by, inferred_by, Entered}
+use Rattle.data.specs.Column.{token_in, Entered}
+use Rattle.data.specs.Agreed.{agreed_in, inferred_by}
 
 -- a cell below 8 is a spine outside kern
 kern_cell : (c : ℕ) → is_kern_spine (spine_of c) ≡ leb 8 c
@@ -63,47 +62,20 @@ kern_at (c ∷ cs) zero h = refl
 kern_at (c ∷ cs) (suc i) h = kern_at cs i (le_of_suc-le-suc h)
 
 -- what a bare column of a record gets is what its neighbours offer it
-module _ (line row : List ℕ) (c : Column) (a : Asked) (e : Entered line row c a) (kern : 8 ≤ get_or row c.index 0) where
-  gets : is_bare (token_in line c).bytes ≡ true
+module _ (offset : ℕ) (line row : List ℕ) (c : Column) (e : Entered line row c) {p v : ℕ} (is : spine_of (get_or row c.index 0) ≡ Line p v) where
+  gets : is_bare (token_in offset line c).bytes ≡ true
       → agreed_in line row ≡ duration_of (peer_reciprocal (take (length row) (tokens_of line)) (map is_kern_spine (row_of row)) c.index)
   gets b =
-      ap duration_of (bare_column (tokens_of line) (kern_cells row) c.index (kern_at row c.index e.inside ∙ le-leb _ _ kern) (ap is_bare e.here ∙ b)
+      let kern : leb 8 (get_or row c.index 0) ≡ true = sym (kern_cell (get_or row c.index 0)) ∙ ap is_kern_spine is in
+      ap duration_of (bare_column (tokens_of line) (kern_cells row) c.index (kern_at row c.index e.inside ∙ kern) (ap is_bare e.here ∙ b)
       ∙ ap uniform (sym (peers_few 0 c.index (tokens_of line) row) ∙ ap (peers_from 0 c.index (take (length row) (tokens_of line))) (sym (kern_row row))))
 
-  pub infers : {v : Option Value} → v ≡ inferred_by (is_bare (token_in line c).bytes) a
-      → v ≡ duration_of (inferred_for (take (length row) (tokens_of line)) (map is_kern_spine (row_of row)) c.index (token_in line c).bytes)
+  pub infers : {value : Option Value} → value ≡ inferred_by (is_bare (token_in offset line c).bytes) line row
+      → value ≡ duration_of (inferred_for (take (length row) (tokens_of line)) (map is_kern_spine (row_of row)) c.index (token_in offset line c).bytes)
   unfolding inferred_for
-  infers {v} q = go (is_bare (token_in line c).bytes) refl q
+  infers {value} q = go (is_bare (token_in offset line c).bytes) refl q
     where
-      go : (b : Bool) → is_bare (token_in line c).bytes ≡ b → v ≡ inferred_by b a
-          → v ≡ duration_of (cond b (peer_reciprocal (take (length row) (tokens_of line)) (map is_kern_spine (row_of row)) c.index) [])
-      go true b r = r ∙ ap (inferred_by true) (e.asked b) ∙ gets b
+      go : (b : Bool) → is_bare (token_in offset line c).bytes ≡ b → value ≡ inferred_by b line row
+          → value ≡ duration_of (cond b (peer_reciprocal (take (length row) (tokens_of line)) (map is_kern_spine (row_of row)) c.index) [])
+      go true b r = r ∙ gets b
       go false b r = r ∙ sym no_value
-
--- ---- the record is asked: t says whether a token is bare
-module _ (line row : List ℕ) (a : Asked) where
-  pub asks : {b t : Bool} {v : Option Value} → b ≡ t → b ≡ true → v ≡ agreed_in line row → Given v ≡ asked_by t line row a
-  asks p q e = rw (sym p ∙ q, e)
-
-  pub asked_before : {b t : Bool} (v : Option Value) → b ≡ t → b ≡ true → a ≡ Given v → RightlyAsked line row a → a ≡ asked_by t line row a
-  asked_before v p q e r =
-      let w : v ≡ agreed_in line row = subst (λ (x : Asked). RightlyAsked line row x) e r in
-      rw (sym p ∙ q) (e ∙ ap Given w)
-
-  pub asks_not : {b t : Bool} → b ≡ t → b ≡ false → a ≡ asked_by t line row a
-  asks_not p q = rw (sym p ∙ q)
-
-  -- what a bare token has asked for
-  pub has_asked : {t : Bool} {r : Asked} → r ≡ asked_by t line row a → t ≡ true → r ≡ Given (agreed_in line row)
-  has_asked {t} e h = e ∙ ap (λ (x : Bool). asked_by x line row a) h
-
--- ---- the ways out of `infer`
-module _ (a : Asked) {b t : Bool} (p : b ≡ t) where
-  pub infers_unasked : b ≡ true → a ≡ Unasked → None ≡ inferred_by t a
-  infers_unasked q e = rw (sym p ∙ q, e)
-
-  pub infers_given : {v : Option Value} → b ≡ true → a ≡ Given v → v ≡ inferred_by t a
-  infers_given q e = rw (sym p ∙ q, e)
-
-  pub infers_not : b ≡ false → None ≡ inferred_by t a
-  infers_not q = rw (sym p ∙ q)

@@ -20,13 +20,13 @@ module _ (line : List ℕ) (from : ℕ) (s : Shape) (h : ShapeAt line from s) wh
   pub note_end : {p : Plain} → s ≡ Note p → p.end ≡ piece_end 9 line from
   note_end e = (subst (ShapeAt line from) e h).0
 
-module _ (line : List ℕ) (c : Column) (s : Shape) (h : ShapeAt line c.from s) (ends : c.end ≡ piece_end 9 line c.from) where
-  pub null_column : {end : ℕ} → s ≡ Null end → is_null (token_in line c).bytes ≡ true
+module _ (offset : ℕ) (line : List ℕ) (c : Column) (s : Shape) (h : ShapeAt line c.from s) (ends : c.end ≡ piece_end 9 line c.from) where
+  pub null_column : {end : ℕ} → s ≡ Null end → is_null (token_in offset line c).bytes ≡ true
   null_column e =
       let z = subst (ShapeAt line c.from) e h in
       ap (λ (x : ℕ). is_null (piece_at line c.from (x - c.from))) (ends ∙ sym z.0) ∙ z.1
 
-  pub note_column : {p : Plain} → s ≡ Note p → PlainToken (token_in line c).bytes p
+  pub note_column : {p : Plain} → s ≡ Note p → PlainToken (token_in offset line c).bytes p
   note_column {p} e =
       let z = subst (ShapeAt line c.from) e h in
       subst (λ (x : ℕ). PlainToken (piece_at line c.from (x - c.from)) p) (z.0 ∙ sym ends) z.1

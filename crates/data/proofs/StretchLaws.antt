@@ -1,10 +1,11 @@
 -- The columns of a stretch, one after the other.
 use Rattle.std.specs.Prelude.{Ok}
 use mathlib.Core.Path.{◌≡◌, refl, sym, ap, subst, ◌∙◌}
-use Prim.Native.Nat.{ℕ, ◌+◌, ◌-◌, ◌%◌, ◌^◌, ◌≤◌, ◌<◌}
+use Prim.Native.Nat.{ℕ, ◌+◌, ◌-◌, ◌^◌, ◌≤◌, ◌<◌}
 use native.Mathlib.Omega.{arith}
 use mathlib.Core.List.{List}
-use lib.ListN.{length, drop, get_or}
+use lib.ListN.{length, take, drop, get_or, length-drop}
+use Rattle.std.proofs.lemmas.List.{take_all, length-take-le, get_or-drop}
 use Rattle.slices.specs.Split.{pieces, piece_at}
 use Rattle.lines.specs.Tokens.{tokens_of}
 use Rattle.state.specs.Counts.{Same}
@@ -22,14 +23,16 @@ use Rattle.notes.specs.declared.Spot.{Spot}
 use Rattle.data.specs.declared.Column.{Column}
 use Rattle.data.specs.declared.Stretch.{Stretch}
 use Rattle.data.specs.Column.{token_in, rest}
-use Rattle.notes.specs.Spot.{spot_at, Sited}
+use Rattle.notes.specs.Spot.{Sited}
 use Rattle.notes.specs.Plain.{PlainWritten}
 use Rattle.data.specs.Stretch.{AtOnce, counts_at, with_stretch, Stretched}
 use Rattle.notes.proofs.NoticeLaws.{inferred_no}
 use Rattle.notes.proofs.TokenLaws.{plain_step, note_added}
 use Rattle.data.proofs.ShapeLaws.{null_end, note_end, null_column, note_column}
-use Rattle.data.proofs.ColumnLaws.{spot_of, column_outside, column_null, column_line, column_sited}
-use Rattle.data.proofs.DataLaws.{Reading, whole_data, data_first, data_turn}
+use Rattle.data.proofs.ColumnLaws.{spot_of, column_quiet, column_null, column_line, column_sited}
+use Rattle.data.proofs.DataLaws.{Reading, data_turn}
+use Rattle.paths.specs.declared.Spine.TheVariants.{Line}
+use Rattle.spines.specs.Cells.{spine_of}
 use Rattle.reading.specs.declared.Part.{Part}
 
 -- what is left before a stretch
@@ -44,53 +47,54 @@ stretch_first line row parts out t k offset from i h p =
 module _ {whole : Landed} {line row : List ℕ} {parts₀ : List Part} {out₀ : List ℕ} {t₀ : Tally} {k offset : ℕ} {parts : List Part} {out : List ℕ} {n at from i : ℕ}
     (inv : Reading whole line row parts₀ out₀ t₀ k offset parts out (counts_at t₀ n at) from i) (h : i < length row) (low : from ≤ length line) where
   abbrev column : ℕ → Column
-  column e = record { index = i; from = from; end = e; line = k; offset = offset }
+  column e = record { index = i; from = from; end = e }
 
-  pub outside_turn : {e : ℕ} → get_or row i 0 < 8 → e ≡ piece_end 9 line from
+  pub quiet_turn : {e : ℕ} → ((p v : ℕ) → spine_of (get_or row i 0) ≡ Line p v → ⊥) → e ≡ piece_end 9 line from
       → Reading whole line row parts₀ out₀ t₀ k offset parts out (counts_at t₀ n at) (e + 1) (i + 1)
-  outside_turn {e} o q =
-      data_turn inv parts out (Ok (counts_at t₀ n at)) h (piece_at_lem low q) (column_outside line row (column e) (state_of row parts (counts_at t₀ n at)) out at o) (same (counts_at t₀ n at)) refl refl
+  quiet_turn {e} o q =
+      data_turn inv parts out (Ok (counts_at t₀ n at)) h (piece_at_lem low q) (column_quiet k offset line row (column e) (state_of row parts (counts_at t₀ n at)) out at o) (same (counts_at t₀ n at)) refl refl
 
   pub null_turn : {e : ℕ} {s : Shape} → ShapeAt line from s → s ≡ Null e
       → Reading whole line row parts₀ out₀ t₀ k offset parts out (counts_at t₀ n at) (e + 1) (i + 1)
   null_turn {e} {s} shape q =
       let z : e ≡ piece_end 9 line from = null_end line from s shape q in
       data_turn inv parts out (Ok (counts_at t₀ n at)) h (piece_at_lem low z)
-      (column_null line row (column e) (state_of row parts (counts_at t₀ n at)) out at (null_column line (column e) s shape z q)) (same (counts_at t₀ n at)) refl refl
+      (column_null k offset line row (column e) (state_of row parts (counts_at t₀ n at)) out at (null_column offset line (column e) s shape z q)) (same (counts_at t₀ n at)) refl refl
 
-  -- the spot of a note, whose offset no NOTE has
-  abbrev spot_here : Spot
-  spot_here = spot_at (get_or row i 0) i k 0
+  module _ {v w : ℕ} (spine : spine_of (get_or row i 0) ≡ Line v w) where
+    pub note_turn : {p : Plain} {s : Shape} {spot : Spot} {parts' : List Part} {out' : List ℕ} {place : ℕ} → ShapeAt line from s → s ≡ Note p
+        → AtOnce n p.unknown t₀.notices
+        → spot ≡ spot_of k offset v w (column p.end) → PlainWritten (piece_at line from (p.end - from)) p spot t₀ at parts out parts' out' place
+        → length out' ≡ length out
+        → Reading whole line row parts₀ out₀ t₀ k offset parts' out' (counts_at t₀ (n + 1) place) (p.end + 1) (i + 1)
+    note_turn {p} {s} {spot} {parts'} {out'} {place} shape q once is by lo =
+        let written : PlainWritten (piece_at line from (p.end - from)) p (spot_of k offset v w (column p.end)) t₀ at parts out parts' out' place
+        = subst (λ (x : Spot). PlainWritten (piece_at line from (p.end - from)) p x t₀ at parts out parts' out' place) is by in
+        let z : p.end ≡ piece_end 9 line from = note_end line from s shape q in
+        let c : Column = column p.end in
+        let token : List ℕ = (token_in offset line c).bytes in
+        let plain : PlainToken token p = note_column offset line c s shape z q in
+        let t : Tally = counts_at t₀ n at in
+        let added = note_added row parts parts' token p.note (spot_of k offset v w c) {t = t} {u = t} {w = counts_at t₀ (n + 1) place} once.few (inferred_no token (spot_of k offset v w c) t out plain.sure) (sym plain.letters) written.sounds refl refl written.lays written.ends refl in
+        data_turn inv parts' out' (Ok (counts_at t₀ (n + 1) place)) h (piece_at_lem low z)
+        (column_line k offset line row c spine (state_of row parts t) out at refl refl (plain_step row parts token _ (spot_of k offset v w c) t out plain once.full added))
+        (record { active = refl; parts = refl; bars = refl }) refl lo
 
-  pub note_turn : {p : Plain} {s : Shape} {spot : Spot} {parts' : List Part} {out' : List ℕ} {place : ℕ} → ShapeAt line from s → s ≡ Note p → 8 ≤ get_or row i 0
-      → AtOnce (get_or row i 0) n p.unknown t₀.notices
-      → spot ≡ spot_here → PlainWritten (piece_at line from (p.end - from)) p spot t₀ at parts out parts' out' place
-      → length out' ≡ length out
-      → Reading whole line row parts₀ out₀ t₀ k offset parts' out' (counts_at t₀ (n + 1) place) (p.end + 1) (i + 1)
-  note_turn {p} {s} {spot} {parts'} {out'} {place} shape q kern once is by lo =
-      let written : PlainWritten (piece_at line from (p.end - from)) p spot_here t₀ at parts out parts' out' place = subst (λ (x : Spot). PlainWritten (piece_at line from (p.end - from)) p x t₀ at parts out parts' out' place) is by in
-      let z : p.end ≡ piece_end 9 line from = note_end line from s shape q in
-      let c : Column = column p.end in
-      let token : List ℕ = (token_in line c).bytes in
-      let plain : PlainToken token p = note_column line c s shape z q in
-      let t : Tally = counts_at t₀ n at in
-      let added = note_added row parts parts' token p.note (spot_of row c) {t = t} {u = t} {w = counts_at t₀ (n + 1) place} once.few (inferred_no token (spot_of row c) t out plain.sure) (sym plain.letters) written.sounds refl refl written.lays written.ends refl in
-      data_turn inv parts' out' (Ok (counts_at t₀ (n + 1) place)) h (piece_at_lem low z)
-      (column_line line row c (state_of row parts t) out at kern once.line refl refl (plain_step row parts token _ (spot_of row c) t out plain once.full added))
-      (record { active = refl; parts = refl; bars = refl }) refl lo
+    -- it is one of a part and of a voice
+    pub note_sited : {e : ℕ} {s : Spot} → Ready row t₀ → offset + length line < 2 ^ 27 → from ≤ e → e ≤ length line → s ≡ spot_of k offset v w (column e)
+        → Sited (piece_at line from (e - from)) s t₀
+    note_sited {e} ready short l r is = column_sited k offset line row (column e) spine ready short h l r is
 
-  -- it is one of a part and of a voice
-  pub note_sited : {e : ℕ} → Ready row t₀ → length line < 2 ^ 27 → from ≤ e → e ≤ length line → 8 ≤ get_or row i 0 → get_or row i 0 % 8 ≤ 3
-      → Sited (piece_at line from (e - from)) spot_here t₀
-  note_sited {e} ready short l r kern voice =
-      let s = column_sited line row (record { index = i; from = from; end = e; line = k; offset = 0 }) ready (omega arith) h l r kern voice in
-      record {
-        short = s.short;
-        parts_few = s.parts_few;
-        bars_few = s.bars_few;
-        part_in = s.part_in;
-        voice_in = s.voice_in;
-      }
+-- the cells of a row from one on: the k-th is that of column i
+module _ (row : List ℕ) (first k : ℕ) {i : ℕ} (at : i ≡ first + k) (h : first ≤ length row) where
+  pub cell_here : get_or (take (length row - first) (drop first row)) k 0 ≡ get_or row i 0
+  cell_here =
+      ap (λ (s : List ℕ). get_or s k 0) (take_all (length row - first) (drop first row) (omega (arith, length-drop first row)))
+      ∙ get_or-drop first row k 0
+      ∙ ap (λ (j : ℕ). get_or row j 0) (sym at)
+
+  pub cell_inside : k < length (take (length row - first) (drop first row)) → i < length row
+  cell_inside inside = omega (arith, length-take-le (length row - first) (drop first row) (omega (arith, length-drop first row)), length-drop first row)
 
 -- where a stretch ends
 pub stretch_ends : {line row : List ℕ} {parts₀ : List Part} {out₀ : List ℕ} {t : Tally} {k offset from₀ i₀ : ℕ} {parts : List Part} {out : List ℕ} {from i n at : ℕ} → i₀ ≤ i
@@ -99,15 +103,6 @@ pub stretch_ends : {line row : List ℕ} {parts₀ : List Part} {out₀ : List �
 stretch_ends low inv = record { low = low; high = inv.high; here = inv.here; same = inv.same }
 
 -- ---- a stretch, and a column that is read by itself
--- the record from its first stretch on
-pub data_begun : {line row : List ℕ} {parts₀ : List Part} {out₀ : List ℕ} {t₀ : Tally} {k offset : ℕ} {parts : List Part} {out : List ℕ} {s : Stretch} {t : Tally}
-    → Stretched line row parts₀ out₀ t₀ k offset 0 0 parts out s → t ≡ with_stretch t₀ s
-    → whole_data line row parts₀ out₀ t₀ k offset ≡ whole_rest line row parts out t k offset s.from s.index
-data_begun {line} {row} {parts₀} {out₀} {t₀} {k} {offset} {parts} {out} {s} {t} h e =
-    (data_first line row parts₀ out₀ t₀ k offset).same
-    ∙ h.same
-    ∙ ap (λ (u : Tally). whole_rest line row parts out u k offset s.from s.index) (sym e)
-
 pub begun_kept : {t₀ t : Tally} (s : Stretch) → t ≡ with_stretch t₀ s → Same t₀ t
 begun_kept s e = rw e (record { active = refl; parts = refl; bars = refl })
 
@@ -118,10 +113,6 @@ begun_ready s r e = rw e (record {
   bars_few = r.bars_few;
   within = r.within;
 })
-
-pub rest_first : {line row : List ℕ} {parts : List Part} {out : List ℕ} {t : Tally} {k offset from i : ℕ} → i ≤ length row → pieces 9 from line ≡ drop i (tokens_of line)
-    → Reading (whole_rest line row parts out t k offset from i) line row parts out t k offset parts out t from i
-rest_first {t = t} h p = record { high = h; wide = refl; kept = same t; here = p; same = refl }
 
 -- one stretch more
 pub stretch_turn : {whole : Landed} {line row : List ℕ} {parts₀ : List Part} {out₀ : List ℕ} {t₀ : Tally} {k offset : ℕ} {parts : List Part} {out : List ℕ} {parts' : List Part} {out' : List ℕ} {u t : Tally} {from i : ℕ} {s : Stretch}

@@ -1,4 +1,4 @@
 -- The columns of a data record, one by one and in stretches.
 pub mod Column
-pub mod Asked
+pub mod Agreed
 pub mod Stretch

@@ -1,5 +1,5 @@
--- Columns read at one go: null tokens, tokens of the usual shape, and spines outside kern.
-use Rattle.std.specs.Prelude.{◌≡◌, ℕ, ◌%◌, ◌≤◌, ◌<◌, Bool, true, List, length, drop}
+-- Columns read at one go: null tokens, tokens of the usual shape, and spines that are no line of a part.
+use Rattle.std.specs.Prelude.{◌≡◌, ℕ, ◌≤◌, ◌<◌, Bool, true, List, length, drop}
 use Rattle.slices.specs.Split.{pieces}
 use Rattle.lines.specs.Tokens.{tokens_of}
 use Rattle.reading.specs.declared.Part.{Part}
@@ -8,9 +8,8 @@ use Rattle.state.specs.View.{state_of, landed}
 use Rattle.data.specs.declared.Stretch.{Stretch}
 use Rattle.data.specs.Column.{rest}
 
--- a kern line's cell, a note that question 10 lets pass, and signifiers of which no notice is kept
-pub record AtOnce (cell notes : ℕ) (unknown : Bool) (notices : ℕ) : Type 0 where
-  pub line : cell % 8 ≤ 3
+-- a note that question 10 lets pass, and signifiers of which no notice is kept
+pub record AtOnce (notes : ℕ) (unknown : Bool) (notices : ℕ) : Type 0 where
   pub few : notes < 100000
   pub full : unknown ≡ true → 1024 ≤ notices
 

@@ -1,18 +1,23 @@
--- The cell says whether the column is a kern line, and its part and voice.
+-- The cell says whether the column is a line of a part, and its part and voice.
+use mathlib.Core.Path.{sym, ◌∙◌}
 use Rattle.state.proofs.CountLaws.{same}
 use Rattle.state.specs.View.{state_of}
 use Rattle.data.proofs.PeerLaws.{infers}
-use Rattle.data.proofs.ColumnLaws.{column_outside, column_branch, column_line, column_sited}
+use Rattle.data.proofs.ColumnLaws.{column_quiet, column_line, column_sited}
 use Rattle.data.proofs.read_column.Goals as goal
 
-pub returns-then-cell-lt8 : goal.returns-then-cell-lt8
-returns-then-cell-lt8 c = (column_outside c.args.line.now c.args.row.now c.args.column (state_of c.args.row.now c.args.parts.now c.args.tally) c.args.out.now c.args.tally.at c.if-cell-lt8.true, same c.args.tally)
-
-pub returns-then-cell-gt3 : goal.returns-then-cell-gt3
-returns-then-cell-gt3 c = (column_branch c.args.line.now c.args.row.now c.args.column (state_of c.args.row.now c.args.parts.now c.args.tally) c.args.out.now c.args.tally.at c.if-cell-lt8.false c.if-cell-gt3.true, same c.args.tally)
+pub returns-in_default : goal.returns-in_default
+returns-in_default c = record {
+  told = column_quiet c.args.line.number c.args.line.offset c.args.line.bytes.now c.args.row.now c.args.column (state_of c.args.row.now c.args.parts.now c.args.tally) c.args.out.now c.args.tally.at (λ p v e. c.in_default.not-Line p v (c.spine_of.ensures ∙ e));
+  kept = same c.args.tally;
+  agreed = c.requires.agreed;
+}
 
 pub read_token-requires : goal.read_token-requires
-read_token-requires c = rw c.spot_at-spot.ensures (column_sited c.args.line.now c.args.row.now c.args.column c.requires.0 c.requires.1.0 c.requires.1.1.inside c.requires.1.1.low c.requires.1.1.high c.if-cell-lt8.false c.if-cell-gt3.false)
+read_token-requires c = column_sited c.args.line.number c.args.line.offset c.args.line.bytes.now c.args.row.now c.args.column (sym c.spine_of.ensures ∙ c.in-Line.is) c.requires.ready c.args.line.short c.requires.entered.inside c.requires.entered.low c.requires.entered.high c.spot_of-spot.ensures
 
-pub returns : goal.returns
-returns c = (column_line c.args.line.now c.args.row.now c.args.column (state_of c.args.row.now c.args.parts.now c.args.tally) c.args.out.now c.args.tally.at c.if-cell-lt8.false c.if-cell-gt3.false (infers c.args.line.now c.args.row.now c.args.column c.args.asked c.requires.1.1 c.if-cell-lt8.false c.infer-inferred.ensures) c.spot_at-spot.ensures (c.read_token.ensures.0 c.args.row.now), c.read_token.ensures.1)
+pub returns-clause-told : goal.returns-clause-told
+returns-clause-told c =
+    let spine = sym c.spine_of.ensures ∙ c.in-Line.is in
+    column_line c.args.line.number c.args.line.offset c.args.line.bytes.now c.args.row.now c.args.column spine (state_of c.args.row.now c.args.parts.now c.args.tally) c.args.out.now c.args.tally.at
+    (infers c.args.line.offset c.args.line.bytes.now c.args.row.now c.args.column c.requires.entered spine c.infer-inferred.ensures.value) c.spot_of-spot.ensures (c.read_token.ensures.0 c.args.row.now)
