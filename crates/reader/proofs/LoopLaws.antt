@@ -1,5 +1,5 @@
 -- The loop over a text's lines: what the whole text comes to is what the lines from here on come to.
-use mathlib.Core.Path.{◌≡◌, refl, sym, ap, subst, ◌∙◌}
+use mathlib.Core.Path.{◌≡◌, refl, sym, ap, ap₂, subst, ◌∙◌}
 use Prim.Native.Nat.{ℕ, ◌+◌, ◌-◌, ◌*◌, ◌≤◌, ◌<◌}
 use native.Mathlib.Omega.{arith}
 use mathlib.Core.Bool.{Bool, true, false, ◌||◌}
@@ -13,7 +13,7 @@ use Rattle.lines.specs.Lines.{lines_of, without_crs, kind_of, piece_end}
 use Rattle.lines.specs.declared.Kind.{Kind}
 use Rattle.lines.specs.declared.Kind.TheVariants.{Empty, Reference, Comment, Star, Bar, Data}
 use Rattle.lines.proofs.PieceLaws.{Piece, piece_at_lem}
-use Rattle.place.specs.declared.Place.{Place}
+use Rattle.place.specs.Taken.{Taken}
 use Rattle.spines.specs.Cells.{row_of, spine_of}
 use Rattle.reading.specs.State.{State, Result, Step, refused as refused-step, goes, ends, start}
 use Rattle.reading.specs.declared.Part.{Part}
@@ -25,17 +25,16 @@ use Rattle.refusal.specs.declared.Refusal.{Refusal}
 use Rattle.state.specs.declared.Flow.{Flow}
 use Rattle.state.specs.declared.Flow.TheVariants.{Goes, Ends}
 use Rattle.state.specs.View.{state_of, Landed, stopped, going, ending, landed, told_flow}
-use Rattle.state.specs.Ready.{FewFlow, Ready, Steady}
+use Rattle.state.specs.Ready.{FewFlow, Steady}
 use Rattle.extent.proofs.StateLaws.{Held, Holds, Passes, widen}
 use Rattle.extent.proofs.RecordLaws.{line_holds}
 use Rattle.extent.proofs.TextLaws.{start_holds}
-use Rattle.records.specs.Here.{Here}
+use Rattle.records.specs.Here.{Under}
 use Rattle.records.proofs.RecordLaws.{quiet_line}
 use Rattle.std.proofs.Common.{inl, inr}
 use Rattle.steady.proofs.LineLaws.{Firmly, start_firm, line_firm, firm_steady}
 use Rattle.reader.specs.Told.{no_tally}
 use Rattle.reader.specs.Landing.{is_passed, refused, finish_at, line_at, lines_at}
-use Rattle.lines.proofs.TrimLaws.{content_short}
 
 -- row, parts and buffer at the line that begins at `from`, behind so many lines
 pub record Reading (text out₀ row : List ℕ) (parts : List Part) (out : List ℕ) (from number : ℕ) (begun : Bool) (t : Tally) : Type 0 where
@@ -45,20 +44,18 @@ pub record Reading (text out₀ row : List ℕ) (parts : List Part) (out : List 
   pub holds : Holds 0 0 (state_of (take t.active row) parts t)
   pub out_long : length out ≡ length out₀
   pub parts_few : t.parts ≤ 256
-  pub short : length text ≤ 67108864
   pub inside : from ≤ length text + 1
   pub counted : number ≤ from
 
-pub reading_first : {text out row : List ℕ} {parts : List Part} → length text ≤ 67108864
+pub reading_first : {text out row : List ℕ} {parts : List Part}
     → Reading text out row parts out 0 0 false no_tally
 unfolding row_of
-reading_first {text} {out} {row} {parts} h = record {
+reading_first {text} {out} {row} {parts} = record {
   same = ap (λ (ls : List (List ℕ)). lines_at false 0 0 ls start 0 out) (sym (all_pieces 10 text));
   firm = start_firm;
   holds = widen (omega arith) (omega arith) start_holds;
   out_long = refl;
   parts_few = omega arith;
-  short = h;
   inside = omega arith;
   counted = omega arith;
 }
@@ -125,19 +122,23 @@ module _ {text out₀ row : List ℕ} {parts : List Part} {out : List ℕ} {from
   steady = firm_steady (state_of (take t.active row) parts t) inv.holds inv.firm
 
   -- how many spines are active
-  pub active_few : length row ≡ 512 → (t.active ≤ 256) × (length (take t.active row) ≡ t.active)
+  active_few : length row ≡ 512 → (t.active ≤ 256) × (length (take t.active row) ≡ t.active)
   unfolding row_of
   active_few row_long =
       let a : length (row_of (take t.active row)) ≡ length (take t.active row) = length-map (take t.active row) spine_of in
       let b : t.active ≤ 256 = omega (arith, steady.row_short, length-take t.active row) in
       (b, length-take-le t.active row (omega arith))
 
-  pub ready : length row ≡ 512 → Ready (take t.active row) t
-  ready row_long = record {
-    cells_long = omega (arith, (active_few row_long).0, (active_few row_long).1);
-    parts_few = inv.parts_few;
-    bars_few = steady.bars_few;
-    within = λ (j p v : ℕ) e. omega (arith, steady.within j p v e, length-take t.parts parts);
+  -- the row holds as many cells
+  pub under : length row ≡ 512 → Under row t
+  under row_long = record {
+    ready = record {
+      cells_long = omega (arith, (active_few row_long).0, (active_few row_long).1);
+      parts_few = inv.parts_few;
+      bars_few = steady.bars_few;
+      within = λ (j p v : ℕ) e. omega (arith, steady.within j p v e, length-take t.parts parts);
+    };
+    long = (active_few row_long).1;
   }
 
   -- the line that begins at `from` and ends at e
@@ -201,73 +202,57 @@ module _ {text out₀ row : List ℕ} {parts : List Part} {out : List ℕ} {from
             holds = subst (Holds 0 0) step.2 (unpaid passes);
             out_long = lo ∙ inv.out_long;
             parts_few = subst FewFlow is few;
-            short = inv.short;
             inside = omega (arith, at.high);
             counted = omega (arith, inv.counted, at.low);
           }
 
-  -- the same of the code's own place behind the line, of its line and kind
-  module _ {past : Place} (on : from ≤ length text) (moved : (past.at ≡ piece_end 10 text from + 1) × (past.line ≡ number + 1))
-      {here-line : List ℕ} {kind : Kind} (is_line : here-line ≡ without_crs (take (past.at - 1 - from) (drop from text))) (is-kind : kind ≡ kind_of here-line) where
-    ends_at : past.at - 1 ≡ piece_end 10 text from
-    ends_at = omega (arith, moved.0)
-
-    line_short : from + length here-line ≤ length text
-    line_short =
-        let e : ℕ = past.at - 1 in
-        let at : Piece 10 text from e = piece_at_lem on ends_at in
-        let long : length (take (e - from) (drop from text)) ≡ e - from = length-take-le (e - from) (drop from text) (omega (arith, at.high, length-drop from text)) in
-        omega (arith, at.low, at.high, content_short (take (e - from) (drop from text)), ap length is_line)
-
-    pub here : length row ≡ 512 → Here here-line row t past.line from
-    here row_long = record {
-      under = record { ready = ready row_long; few = (active_few row_long).0; row_long = row_long };
-      short = omega (arith, line_short, inv.short);
-      numbered = omega (arith, inv.counted, inv.short, on, moved.1);
-    }
+  -- the same of the line that the code takes, and of the place behind it
+  module _ {at' line' : ℕ} {bytes : List ℕ} {n offset : ℕ} (taken : Taken text from number at' line' bytes n offset) {kind : Kind} (is-kind : kind ≡ kind_of bytes) where
+    ends_at : at' - 1 ≡ piece_end 10 text from
+    ends_at = omega (arith, taken.moved)
 
     module _ (s : Answered Flow Refusal) (row' : List ℕ) (parts' : List Part) (out' : List ℕ)
-        (so : told_flow s row' parts' out' ≡ landed (read_line begun past.line from here-line (state_of (take t.active row) parts t)) out t.at) where
-      so_numbered : told_flow s row' parts' out' ≡ landed (read_line begun (number + 1) from here-line (state_of (take t.active row) parts t)) out t.at
-      so_numbered = so ∙ ap (λ (k : ℕ). landed (read_line begun k from here-line (state_of (take t.active row) parts t)) out t.at) moved.1
+        (so : told_flow s row' parts' out' ≡ landed (read_line begun n offset bytes (state_of (take t.active row) parts t)) out t.at) where
+      so_numbered : told_flow s row' parts' out' ≡ landed (read_line begun (number + 1) from bytes (state_of (take t.active row) parts t)) out t.at
+      so_numbered = so ∙ ap₂ (λ (k o : ℕ). landed (read_line begun k o bytes (state_of (take t.active row) parts t)) out t.at) (taken.number_is ∙ taken.counted) taken.offset_is
 
       so_here : told_flow s row' parts' out'
-          ≡ landed (read_line begun (number + 1) from (without_crs (take (past.at - 1 - from) (drop from text))) (state_of (take t.active row) parts t)) out t.at
-      so_here = so_numbered ∙ ap (λ (l : List ℕ). landed (read_line begun (number + 1) from l (state_of (take t.active row) parts t)) out t.at) is_line
+          ≡ landed (read_line begun (number + 1) from (without_crs (take (at' - 1 - from) (drop from text))) (state_of (take t.active row) parts t)) out t.at
+      so_here = so_numbered ∙ ap (λ (l : List ℕ). landed (read_line begun (number + 1) from l (state_of (take t.active row) parts t)) out t.at) taken.bytes_are
 
       pub refused_here : (r : Refusal) → s ≡ Err r → refused (number_of r) (line_of r) (figure_of r) ≡ lines_at false 0 0 (lines_of text) start 0 out₀
-      refused_here r is = reading_refused on ends_at s row' parts' out' so_here r is
+      refused_here r is = reading_refused taken.on ends_at s row' parts' out' so_here r is
 
       pub ends_here : (u : Tally) → s ≡ Ok (Ends u)
           → lines_at false 0 0 (lines_of text) start 0 out₀ ≡ finish_at true (state_of (take u.active row') parts' u) u.at out'
-      ends_here u is = reading_ends on ends_at s row' parts' out' so_here u is
+      ends_here u is = reading_ends taken.on ends_at s row' parts' out' so_here u is
 
       pub ends_small : (u : Tally) → s ≡ Ok (Ends u) → FewFlow s → (u.parts ≤ 256) × (u.bars ≤ 100000)
       ends_small u is few =
           let went : ending (state_of (take u.active row') parts' u) u.at out'
-          ≡ landed (read_line begun (number + 1) from here-line (state_of (take t.active row) parts t)) out t.at
+          ≡ landed (read_line begun (number + 1) from bytes (state_of (take t.active row) parts t)) out t.at
           = ap (λ (x : Answered Flow Refusal). told_flow x row' parts' out') (sym is) ∙ so_numbered in
-          let step = ends_is (read_line begun (number + 1) from here-line (state_of (take t.active row) parts t)) out t.at went in
-          let passes : Passes (0 + 5 * length here-line) 0 (ends step.0)
-          = subst (λ (x : Step). Passes (0 + 5 * length here-line) 0 x) step.1
-          (line_holds begun (number + 1) from here-line (state_of (take t.active row) parts t) inv.holds) in
+          let step = ends_is (read_line begun (number + 1) from bytes (state_of (take t.active row) parts t)) out t.at went in
+          let passes : Passes (0 + 5 * length bytes) 0 (ends step.0)
+          = subst (λ (x : Step). Passes (0 + 5 * length bytes) 0 x) step.1
+          (line_holds begun (number + 1) from bytes (state_of (take t.active row) parts t) inv.holds) in
           let held : Holds 0 0 (state_of (take u.active row') parts' u) = subst (Holds 0 0) step.2 (unpaid passes) in
           (subst FewFlow is few, omega (arith, held.closed, held.notes_few))
 
       pub goes_here : (u : Tally) → s ≡ Ok (Goes u) → FewFlow s → length out' ≡ length out → {begun' : Bool} → begun' ≡ (begun || is_record kind)
-          → Reading text out₀ row' parts' out' past.at past.line begun' u
+          → Reading text out₀ row' parts' out' at' line' begun' u
       goes_here u is few lo b =
-          let next : past.at - 1 + 1 ≡ past.at = omega (arith, moved.0) in
-          subst (λ (x : Bool). Reading text out₀ row' parts' out' past.at past.line x u)
-          (sym (b ∙ ap (λ (l : Kind). begun || is_record l) (is-kind ∙ ap kind_of is_line)))
-          (subst (λ (k : ℕ). Reading text out₀ row' parts' out' past.at k (begun || is_record (kind_of (without_crs (take (past.at - 1 - from) (drop from text))))) u) (sym moved.1)
-          (subst (λ (k : ℕ). Reading text out₀ row' parts' out' k (number + 1) (begun || is_record (kind_of (without_crs (take (past.at - 1 - from) (drop from text))))) u) next
-          (reading_turn on ends_at s row' parts' out' so_here u is few lo)))
+          let next : at' - 1 + 1 ≡ at' = omega (arith, taken.moved) in
+          subst (λ (x : Bool). Reading text out₀ row' parts' out' at' line' x u)
+          (sym (b ∙ ap (λ (l : Kind). begun || is_record l) (is-kind ∙ ap kind_of taken.bytes_are)))
+          (subst (λ (k : ℕ). Reading text out₀ row' parts' out' at' k (begun || is_record (kind_of (without_crs (take (at' - 1 - from) (drop from text))))) u) (sym taken.counted)
+          (subst (λ (k : ℕ). Reading text out₀ row' parts' out' k (number + 1) (begun || is_record (kind_of (without_crs (take (at' - 1 - from) (drop from text))))) u) next
+          (reading_turn taken.on ends_at s row' parts' out' so_here u is few lo)))
 
     -- a line that does nothing
-    pub passed_here : is_passed kind ≡ true → Reading text out₀ row parts out past.at past.line begun t
+    pub passed_here : is_passed kind ≡ true → Reading text out₀ row parts out at' line' begun t
     passed_here p =
-        goes_here (Ok (Goes t)) row parts out (passed_told begun past.line from here-line out row parts t kind is-kind p) t refl inv.parts_few refl (passed_begun begun kind p)
+        goes_here (Ok (Goes t)) row parts out (passed_told begun n offset bytes out row parts t kind is-kind p) t refl inv.parts_few refl (passed_begun begun kind p)
 
   pub at_end : (t.parts ≤ 256) × (t.bars ≤ 100000)
   at_end = (inv.parts_few, steady.bars_few)

@@ -17,16 +17,18 @@ ghost use Rattle.reader.specs.Told.{finished_by, Tells, no_tally};
 ghost use Rattle.reader.specs.Measured.{Measured};
 
 use lines::Kind;
+use place::{Place, Text};
 use reading::Part;
 use refusal::Refusal;
 use sheet::{Head, Span};
 use state::{Flow, Tally};
+use voices::Rows;
 
 // How long a text may be.
 const MOST_BYTES: usize = 67_108_864;
 
 // What the reading of a text writes: the counts of parts and notes, and the length of the records.
-#[derive(Clone, Copy)]
+#[derive(Clone, Copy, Debug, PartialEq, Eq)]
 struct Written {
     parts: usize,
     notes: u32,
@@ -85,13 +87,6 @@ pub fn line_of(text: &[u8], from: usize, end: usize) -> &[u8]
     &line[..long]
 }
 
-// Whether a line of some kind does nothing: an empty line, and a `!` line that is no reference.
-fn is_passed(kind: Kind) -> bool
-    ensures { result ≡ is_passed kind }
-{
-    matches!(kind, Kind::Empty | Kind::Comment)
-}
-
 // How many cells an array has for the row.
 pub fn room(row: &[u16]) -> usize
     ensures { result ≡ length row.now }
@@ -99,81 +94,62 @@ pub fn room(row: &[u16]) -> usize
     row.len()
 }
 
-// The lines of a text, one after another, on arrays that are lent for the row and the parts.
+// Whether a line of some kind does nothing: an empty line, and a `!` line that is no reference.
+fn is_passed(kind: Kind) -> bool
+    ensures { result ≡ is_passed kind }
+{
+    matches!(kind, Kind::Empty | Kind::Comment)
+}
+
+// The lines of a text, one after another, under rows and parts that are lent.
 fn read_lines(
-    text: &[u8],
-    row: &mut [u16; 512],
-    new: &mut [u16; 512],
-    masks: &mut [u8; 8192],
+    text: Text<'_>,
+    rows: &mut Rows,
     parts: &mut [Part; 256],
     out: &mut [u8],
 ) -> Result<Written, Refusal>
-    requires { length text.now ≤ 67108864 }
-    ensures { finished_by result out.new ≡ lines_at false 0 0 (lines_of text.now) start 0 out.old }
+    ensures { finished_by result out.new ≡ lines_at false 0 0 (lines_of text.entry.bytes.now) start 0 out.old }
 {
     let mut tally = no_tally();
     let mut begun = false;
-    let mut number: u32 = 0;
-    let mut from = 0;
-    while from <= text.len() {
-        let past = place::past_line(text, from, number);
-        let end = past.at - 1;
-        let line = line_of(text, from, end);
-        let kind = lines::line_kind(line);
-        number = past.line;
-        if is_passed(kind) {
-            from = past.at;
+    let mut place = Place { at: 0, line: 0 };
+    while let Some(line) = place.take_line(text) {
+        if is_passed(line.kind) {
             continue;
         }
-        room(row);
-        let flow = records::read_line(
-            begun,
-            line,
-            kind,
-            row,
-            new,
-            masks,
-            parts,
-            tally,
-            number,
-            from as u32,
-            out,
-        )?;
-        match flow {
+        match records::read_line(begun, line, rows, parts, tally, out)? {
             Flow::Ends(last) => return finish_text(true, parts, last, out),
             Flow::Goes(next) => tally = next,
         }
-        begun = records::begun_after(begun, kind);
-        from = past.at;
+        begun |= records::is_record(line.kind);
     }
     finish_text(begun, parts, tally, out)
 }
 
 // One reading of a text, its records written from the start of a buffer on, each where it fits.
-fn run(text: &[u8], out: &mut [u8]) -> Result<Written, Refusal>
-    requires { length text.now ≤ 67108864 }
-    ensures { finished_by result out.new ≡ lines_at false 0 0 (lines_of text.now) start 0 out.old }
+fn run(text: Text<'_>, out: &mut [u8]) -> Result<Written, Refusal>
+    ensures { finished_by result out.new ≡ lines_at false 0 0 (lines_of text.entry.bytes.now) start 0 out.old }
 {
-    let mut row = [0u16; 512];
-    let mut new = [0u16; 512];
-    let mut masks = [0u8; 8192];
+    let mut rows = Rows::empty();
     let mut parts = [state::fresh_part(0); 256];
-    read_lines(text, &mut row, &mut new, &mut masks, &mut parts, out)
+    read_lines(text, &mut rows, &mut parts, out)
 }
 
 // The first reading of a text, which measures: its records are written nowhere.
-fn measure(text: &[u8]) -> Result<Written, Refusal>
-    requires { (length text.now ≤ 67108864) × (utf8_length text.now ≡ length text.now) }
-    ensures { Tells result text.now }
+fn measure(text: Text<'_>) -> Result<Written, Refusal>
+    requires { utf8_length text.bytes.now ≡ length text.bytes.now }
+    ensures { Tells result text.entry.bytes.now }
 {
     let mut nowhere = [0u8; 1];
     run(text, &mut nowhere)
 }
 
 // The sheet of a text that was measured: the second reading writes behind the head.
-fn write_sheet(text: &[u8], out: &mut [u8], written: Written)
-    requires { (length text.now ≤ 67108864) × ((utf8_length text.now ≡ length text.now) × (Measured text.now written.parts written.notes written.at × (16 + written.at ≤ length out.old))) }
-    ensures { out.new ≡ buffer_of text.now out.old }
+fn write_sheet(text: Text<'_>, out: &mut [u8], written: Written)
+    requires utf8 { utf8_length text.bytes.now ≡ length text.bytes.now }
+    requires measured { Measured text.bytes.now written.parts written.notes written.at }
+    requires room { 16 + written.at ≤ length out.old }
+    ensures { out.new ≡ buffer_of text.entry.bytes.now out.old }
 {
     // it comes to what the first reading came to
     let _ = run(text, &mut out[16..]);
@@ -204,6 +180,7 @@ pub fn read(text: &[u8], out: &mut [u8]) -> Result<usize, Refusal>
     if good < text.len() {
         return Err(Refusal::NotUtf8 { offset: good });
     }
+    let text = Text { bytes: text };
     let written = measure(text)?;
     let needed = 16 + written.at;
     if out.len() < needed {

@@ -4,7 +4,6 @@ use Prim.Native.Nat.{ℕ, ◌≤◌}
 use native.Mathlib.Omega.{arith}
 use mathlib.Core.List.{List}
 use lib.ListN.{length, take}
-use lib.Seq.{length-take-le}
 use Rattle.slices.specs.Ascii.{ascii}
 use Rattle.lines.specs.Lines.{kind_of}
 use Rattle.lines.specs.Tokens.{tokens_of}
@@ -32,9 +31,6 @@ use Rattle.state.specs.Counts.{with_active}
 use Rattle.records.proofs.RepairLaws.{filled_with, star_tokens, bar_tokens, data_tokens}
 use Rattle.records.proofs.OutcomeLaws.{kept_row, quiet_told}
 
-pub row_length : {row : List ℕ} {t : Tally} → Under row t → length (take t.active row) ≡ t.active
-row_length {row} {t} u = length-take-le t.active row (omega (arith, u.few, u.row_long))
-
 pub kept_few : (t : Tally) (s : Result Tally Refusal) → t.parts ≤ 256 → Kept t s → Few s
 kept_few t (Ok u) h k = omega (arith, k.parts)
 kept_few t (Err r) h k = tt
@@ -56,13 +52,13 @@ module _ (parts : List Part) {row : List ℕ} {t : Tally} (u : Under row t) (lin
   ts = tokens_of line
 
   pub star_filled : kind_of line ≡ Star → filled (length cells) ts ≡ repaired t.active ts
-  star_filled k = ap (λ (n : ℕ). filled n ts) (row_length u) ∙ filled_stars t.active ts ∙ sym (star_tokens t.active line even.0 even.1 k)
+  star_filled k = ap (λ (n : ℕ). filled n ts) u.long ∙ filled_stars t.active ts ∙ sym (star_tokens t.active line even.0 even.1 k)
 
   pub bar_filled : kind_of line ≡ Bar → filled_bars (length cells) ts ≡ repaired t.active ts
-  bar_filled k = ap (λ (n : ℕ). filled_bars n ts) (row_length u) ∙ filled_bars_lem t.active ts ∙ sym (bar_tokens t.active line even.0 even.1 k)
+  bar_filled k = ap (λ (n : ℕ). filled_bars n ts) u.long ∙ filled_bars_lem t.active ts ∙ sym (bar_tokens t.active line even.0 even.1 k)
 
   pub data_taken : kind_of line ≡ Data → take (length cells) ts ≡ repaired t.active ts
-  data_taken k = ap (λ (n : ℕ). take n ts) (row_length u) ∙ sym (data_tokens t.active line even.0 even.1 k).0
+  data_taken k = ap (λ (n : ℕ). take n ts) u.long ∙ sym (data_tokens t.active line even.0 even.1 k).0
 
   -- what the three readings say
   pub bar_told : (closed v : Tally) (parts' : List Part) (out' out : List ℕ) → kind_of line ≡ Bar → v ≡ with_active closed t.active
@@ -74,11 +70,11 @@ module _ (parts : List Part) {row : List ℕ} {t : Tally} (u : Under row t) (lin
       ∙ ap (λ (l : List (List ℕ)). landed (goes (read_bar (placed offset l) (state_of cells parts t))) out t.at) (bar_filled k)
 
   pub data_told : (s : Result Tally Refusal) (parts' : List Part) (out' out : List ℕ) (number offset : ℕ) → kind_of line ≡ Data
-      → (told s cells parts' out' ≡ landed (read_data number (placed offset (take (length cells) ts)) (state_of cells parts t)) out t.at) × Kept t s
+      → told s cells parts' out' ≡ landed (read_data number (placed offset (take (length cells) ts)) (state_of cells parts t)) out t.at → Kept t s
       → told_row s row parts' out' ≡ landed (read_data number (placed offset (repaired t.active ts)) (state_of cells parts t)) out t.at
-  data_told s parts' out' out number offset k so =
-      kept_row s t so.1 row parts' out'
-      ∙ so.0
+  data_told s parts' out' out number offset k so kept =
+      kept_row s t kept row parts' out'
+      ∙ so
       ∙ ap (λ (l : List (List ℕ)). landed (read_data number (placed offset l) (state_of cells parts t)) out t.at) (data_taken k)
 
   -- by the kind that the code matched

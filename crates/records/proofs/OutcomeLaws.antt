@@ -5,7 +5,6 @@ use native.Mathlib.Nat.{not-suc-le-zero}
 use native.Mathlib.Omega.{arith}
 use mathlib.Core.List.{List, [], ◌∷◌, map}
 use lib.ListN.{length, take, length-map}
-use borrow.Author.Tests.{ne_eqb}
 use Rattle.state.specs.Counts.{Same}
 use Rattle.lines.specs.Tokens.{tokens_of}
 use Rattle.spines.specs.Cells.{row_of, spine_of}

@@ -1,9 +1,9 @@
 -- A record behind the header, and a line: what each branch of the code says is what the reading comes to.
 use Rattle.std.proofs.Common.{Ok, Err}
-use mathlib.Core.Path.{◌≡◌, refl, sym, ap, ap₂, subst, ◌∙◌}
+use mathlib.Core.Path.{◌≡◌, sym, ap, ap₂, subst, ◌∙◌}
 use Prim.Native.Nat.{ℕ, ◌≤◌}
 use native.Mathlib.Omega.{arith}
-use mathlib.Core.Bool.{Bool, true, false, false≢true}
+use mathlib.Core.Bool.{Bool, true, false}
 use mathlib.Core.List.{List, []}
 use lib.ListN.{length, take}
 use Rattle.state.specs.Counts.{Same}
@@ -23,7 +23,7 @@ use Rattle.reading.specs.State.{State, Step, goes}
 use Rattle.reading.specs.declared.Part.{Part}
 use Rattle.reading.specs.Notices.{placed, notify}
 use Rattle.reading.specs.Header.{read_reference, read_header}
-use Rattle.reading.specs.Records.{notice_repair, by_kind, by_repair, on_row, on_record, by_line, is_record, read_line}
+use Rattle.reading.specs.Records.{notice_repair, by_kind, by_repair, on_row, on_record, by_line, read_line}
 use Rattle.state.specs.declared.Tally.{Tally}
 use Rattle.std.specs.Prelude.{Ok, ◌⊎◌}
 use Rattle.std.proofs.Common.{inl, inr}
@@ -32,9 +32,8 @@ use Rattle.state.specs.Lay.{laid}
 use Rattle.state.specs.View.{state_of, Landed, stopped, ending, landed, told, told_flow}
 use Rattle.writing.specs.Kept.{notice_of, kept_records, after_kept}
 use Rattle.writing.proofs.KeptLaws.{kept_same, notify_told}
-use Rattle.records.specs.Here.{Under, Here, Evenly}
+use Rattle.records.specs.Here.{Under, Evenly}
 use Rattle.records.proofs.OutcomeLaws.{landed_told, none_left, some_left, ends_told, quiet_told}
-use Rattle.records.proofs.KindLaws.{row_length}
 
 -- the same counts of spines, parts and bars
 pub under_same : {row : List ℕ} {t u : Tally} → Same t u → Under row t → Under row u
@@ -45,12 +44,8 @@ under_same {row} {t} {u} s h = record {
     bars_few = omega (arith, h.ready.bars_few, s.bars);
     within = λ (j p v : ℕ) e. omega (arith, s.parts, h.ready.within j p v (subst (λ (n : ℕ). spine_at (row_of (take n row)) j ≡ Line-of p v) s.active e));
   };
-  few = omega (arith, h.few, s.active);
-  row_long = h.row_long;
+  long = subst (λ (n : ℕ). length (take n row) ≡ n) (sym s.active) h.long;
 }
-
-pub here_same : {line row : List ℕ} {t u : Tally} {number offset : ℕ} → Same t u → Here line row t number offset → Here line row u number offset
-here_same s h = record { under = under_same s h.under; short = h.short; numbered = h.numbered }
 
 pub even_same : {t u : Tally} {r : Repair} {found : Repaired} (line : List ℕ) → Same t u → found ≡ repaired_of t.active (tokens_of line) → found ≡ Ok r → Evenly u.active line
 even_same {t} {u} {r} line s e is = (r, ap (λ (n : ℕ). repaired_of n (tokens_of line)) s.active ∙ sym e ∙ is)
@@ -74,13 +69,13 @@ module _ (parts : List Part) {row : List ℕ} {t : Tally} (h : Under row t) (lin
       ∙ ap (λ (j : ℕ). landed (goes (notify 3 number 0 (span_of offset j) st)) out t.at) l in
       ap (λ (n : ℕ). ending (state_of (take n row) parts u) u.at out') same.active
       ∙ ends_told u cells parts out' (notify 3 number 0 (span_of offset (length line)) st) out t.at so
-      ∙ ap (λ (x : Step). landed x out t.at) (sym (none_left cells line number offset st (row_length h ∙ z)))
+      ∙ ap (λ (x : Step). landed x out t.at) (sym (none_left cells line number offset st (h.long ∙ z)))
 
   -- with some, by the repair
   module _ (some_spine : t.active ≡ 0 → ⊥) {found : Repaired} (is_found : found ≡ repaired_of t.active (tokens_of line)) where
     by_found : on_row (row_of cells) number offset line st ≡ by_repair found number offset line (placed offset (repaired t.active (tokens_of line))) st
     by_found =
-        some_left cells line t.active number offset st (row_length h) (omega arith)
+        some_left cells line t.active number offset st h.long (omega arith)
         ∙ ap (λ (x : Repaired). by_repair x number offset line (placed offset (repaired t.active (tokens_of line))) st) (sym is_found)
 
     pub uneven_told : {n : ℕ} {e : Unrepaired} → found ≡ Err e → e ≡ Uneven n

@@ -1,5 +1,5 @@
--- What holds where a line is read: small numbers, and as many cells as spines are active.
-use Rattle.std.specs.Prelude.{Ok, ◌≡◌, ℕ, ◌+◌, ◌≤◌, ◌<◌, ◌^◌, List, length, take}
+-- What holds where a line is read: as many cells as spines are active, and a record that is as long.
+use Rattle.std.specs.Prelude.{Ok, ◌≡◌, ℕ, List, length, take}
 use Rattle.lines.specs.Tokens.{tokens_of}
 use Rattle.repair.specs.Repair.{repaired_of}
 use Rattle.repair.specs.declared.Repair.{Repair}
@@ -9,13 +9,7 @@ use Rattle.state.specs.declared.Tally.{Tally}
 -- the row is the first active cells of an array
 pub record Under (row : List ℕ) (t : Tally) : Type 0 where
   pub ready : Ready (take t.active row) t
-  pub few : t.active ≤ 256
-  pub row_long : length row ≡ 512
-
-pub record Here (line row : List ℕ) (t : Tally) (number offset : ℕ) : Type 0 where
-  pub under : Under row t
-  pub short : offset + length line < 2 ^ 27
-  pub numbered : number < 2 ^ 27
+  pub long : length (take t.active row) ≡ t.active
 
 -- questions 6 and 7 pass
 abbrev pub Evenly : ℕ → List ℕ → Type 0

@@ -4,7 +4,6 @@
 ghost use Rattle.std.specs.Prelude.{◌≡◌, ◌||◌, List, ℕ, ◌+◌, ◌<◌, ◌^◌, length, take, ◌≤◌};
 ghost use Rattle.std.specs.Option.{option_map};
 ghost use Rattle.notice.specs.Number.{number_of};
-ghost use Rattle.lines.specs.Lines.{kind_of};
 ghost use Rattle.lines.specs.Tokens.{tokens_of};
 ghost use Rattle.lines.specs.declared.Kind.TheVariants.{Bar, Data};
 ghost use Rattle.spines.specs.Cells.{row_of};
@@ -18,15 +17,17 @@ ghost use Rattle.reading.specs.Records.{notice_repair, is_record, by_kind, on_ro
 ghost use Rattle.state.specs.Ready.{Few, FewFlow};
 ghost use Rattle.state.specs.View.{state_of, landed, told, told_row, told_flow};
 ghost use Rattle.state.specs.Counts.{Same};
-ghost use Rattle.records.specs.Here.{Under, Here, Evenly};
+ghost use Rattle.records.specs.Here.{Under, Evenly};
 
 use lines::Kind;
 use notice::Code;
+use place::TextLine;
 use reading::Part;
 use refusal::Refusal;
 use repair::{Repair, Unrepaired};
 use sheet::Span;
 use state::{Flow, Tally};
+use voices::Rows;
 
 // The notice that says of a repair.
 fn repair_notice(repair: Repair) -> Option<Code>
@@ -40,37 +41,29 @@ fn repair_notice(repair: Repair) -> Option<Code>
     }
 }
 
+// A whole line in the text.
+fn span_of(line: TextLine<'_>) -> Span
+    ensures { result ≡ record { at = line.entry.offset; len = length line.entry.bytes.now } }
+{
+    Span {
+        at: line.offset,
+        len: line.bytes.len() as u32,
+    }
+}
+
 // Notices 4, 5 and 6 have the line.
-fn notice_repair(
-    repair: Repair,
-    line: &[u8],
-    tally: Tally,
-    number: u32,
-    offset: u32,
-    out: &mut [u8],
-) -> Tally
-    requires { offset + length line.now < 2 ^ 27 }
-    ensures told { (cells : List ℕ) (parts : List Part) → told (Ok result) cells parts out.new ≡ landed (goes (notice_repair repair number offset line.now (state_of cells parts tally))) out.old tally.at }
+fn notice_repair(repair: Repair, line: TextLine<'_>, tally: Tally, out: &mut [u8]) -> Tally
+    ensures told { (cells : List ℕ) (parts : List Part) → told (Ok result) cells parts out.new ≡ landed (goes (notice_repair repair line.entry.number line.entry.offset line.entry.bytes.now (state_of cells parts tally))) out.old tally.at }
     ensures same { Same tally result }
 {
     match repair_notice(repair) {
         None => tally,
-        Some(what) => writing::notify(
-            out,
-            tally,
-            what,
-            number,
-            0,
-            Span {
-                at: offset,
-                len: line.len() as u32,
-            },
-        ),
+        Some(what) => writing::notify(out, tally, what, line.number, 0, span_of(line)),
     }
 }
 
 // Whether a line of some kind is a record: neither empty nor begun by `!`.
-fn is_record(kind: Kind) -> bool
+pub fn is_record(kind: Kind) -> bool
     ensures { result ≡ is_record kind }
 {
     matches!(kind, Kind::Star | Kind::Bar | Kind::Data)
@@ -83,105 +76,108 @@ pub fn begun_after(begun: bool, kind: Kind) -> bool
     begun || is_record(kind)
 }
 
-// A barline record under the first cells of an array.
-fn bar_of(line: &[u8], row: &[u16], parts: &mut [Part; 256], tally: Tally, out: &mut [u8]) -> Tally
-    requires { Under row.now tally × ((kind_of line.now ≡ Bar) × Evenly tally.active line.now) }
-    ensures told { (offset : ℕ) → told_row (Ok result) row.now parts.new out.new ≡ landed (goes (read_bar (placed offset (repaired tally.active (tokens_of line.now))) (state_of (take tally.active row.now) parts.old tally))) out.old tally.at }
+// A barline record under the first cells of the row.
+fn bar_of(
+    line: TextLine<'_>,
+    rows: &Rows,
+    parts: &mut [Part; 256],
+    tally: Tally,
+    out: &mut [u8],
+) -> Tally
+    requires under { Under rows.now.row tally }
+    requires even { Evenly tally.active line.bytes.now }
+    requires bar { line.kind ≡ Bar }
+    ensures told { told_row (Ok result) rows.now.row parts.new out.new ≡ landed (goes (read_bar (placed line.entry.offset (repaired tally.active (tokens_of line.entry.bytes.now))) (state_of (take tally.active rows.now.row) parts.old tally))) out.old tally.at }
     ensures few { result.parts ≤ 256 }
 {
     let active = tally.active;
-    let closed = bars::read_bar(line, &row[..active], parts, tally, out);
+    let closed = bars::read_bar(line.bytes, &rows.row[..active], parts, tally, out);
     Tally { active, ..closed }
 }
 
-// A data record under the first cells of an array.
+// A data record under the first cells of the row.
 fn data_of(
-    line: &[u8],
-    row: &[u16],
+    line: TextLine<'_>,
+    rows: &Rows,
     parts: &mut [Part; 256],
     tally: Tally,
-    number: u32,
-    offset: u32,
     out: &mut [u8],
 ) -> Result<Tally, Refusal>
-    requires { Under row.now tally × (((offset + length line.now < 2 ^ 27) × (number < 2 ^ 27)) × ((kind_of line.now ≡ Data) × Evenly tally.active line.now)) }
-    ensures told { told_row result row.now parts.new out.new ≡ landed (read_data number (placed offset (repaired tally.active (tokens_of line.now))) (state_of (take tally.active row.now) parts.old tally)) out.old tally.at }
+    requires under { Under rows.now.row tally }
+    requires even { Evenly tally.active line.bytes.now }
+    requires data_kind { line.kind ≡ Data }
+    ensures told { told_row result rows.now.row parts.new out.new ≡ landed (read_data line.entry.number (placed line.entry.offset (repaired tally.active (tokens_of line.entry.bytes.now))) (state_of (take tally.active rows.now.row) parts.old tally)) out.old tally.at }
     ensures few { Few result }
 {
     let active = tally.active;
-    data::read_data(line, &row[..active], parts, tally, number, offset, out)
+    data::read_data(line, &rows.row[..active], parts, tally, out)
 }
 
 // A record behind the header that passed questions 6 and 7.
 fn read_even(
-    line: &[u8],
-    kind: Kind,
-    row: &mut [u16; 512],
-    new: &mut [u16; 512],
-    masks: &mut [u8; 8192],
+    line: TextLine<'_>,
+    rows: &mut Rows,
     parts: &mut [Part; 256],
     tally: Tally,
-    number: u32,
-    offset: u32,
     out: &mut [u8],
 ) -> Result<Tally, Refusal>
-    requires { Here line.now row.old tally number offset × ((kind ≡ kind_of line.now) × Evenly tally.active line.now) }
-    ensures told { told_row result row.new parts.new out.new ≡ landed (by_kind kind number (placed offset (repaired tally.active (tokens_of line.now))) (state_of (take tally.active row.old) parts.old tally)) out.old tally.at }
+    requires under { Under rows.old.row tally }
+    requires even { Evenly tally.active line.bytes.now }
+    ensures told { told_row result rows.new.row parts.new out.new ≡ landed (by_kind line.entry.kind line.entry.number (placed line.entry.offset (repaired tally.active (tokens_of line.entry.bytes.now))) (state_of (take tally.active rows.old.row) parts.old tally)) out.old tally.at }
     ensures few { Few result }
 {
-    match kind {
-        Kind::Star => stars::read_star(line, row, new, masks, parts, tally, number, offset, out),
-        Kind::Bar => Ok(bar_of(line, row, parts, tally, out)),
-        Kind::Data => data_of(line, row, parts, tally, number, offset, out),
+    match line.kind {
+        Kind::Star => stars::read_star(
+            line.bytes,
+            &mut rows.row,
+            &mut rows.next,
+            &mut rows.masks,
+            parts,
+            tally,
+            line.number,
+            line.offset,
+            out,
+        ),
+        Kind::Bar => Ok(bar_of(line, rows, parts, tally, out)),
+        Kind::Data => data_of(line, rows, parts, tally, out),
         Kind::Empty | Kind::Reference | Kind::Comment => Ok(tally),
     }
 }
 
 // A record behind the header.
 fn read_record(
-    line: &[u8],
-    kind: Kind,
-    row: &mut [u16; 512],
-    new: &mut [u16; 512],
-    masks: &mut [u8; 8192],
+    line: TextLine<'_>,
+    rows: &mut Rows,
     parts: &mut [Part; 256],
     tally: Tally,
-    number: u32,
-    offset: u32,
     out: &mut [u8],
 ) -> Result<Flow, Refusal>
-    requires { Here line.now row.old tally number offset × (kind ≡ kind_of line.now) }
-    ensures told { told_flow result row.new parts.new out.new ≡ landed (on_row (row_of (take tally.active row.old)) number offset line.now (state_of (take tally.active row.old) parts.old tally)) out.old tally.at }
+    requires { Under rows.old.row tally }
+    ensures told { told_flow result rows.new.row parts.new out.new ≡ landed (on_row (row_of (take tally.active rows.old.row)) line.entry.number line.entry.offset line.entry.bytes.now (state_of (take tally.active rows.old.row) parts.old tally)) out.old tally.at }
     ensures few { FewFlow result }
 {
-    let active = tally.active;
-    if active == 0 {
+    if tally.active == 0 {
         let noticed = writing::notify(
             out,
             tally,
             Code::UnsupportedSegment,
-            number,
+            line.number,
             0,
-            Span {
-                at: offset,
-                len: line.len() as u32,
-            },
+            span_of(line),
         );
         return Ok(Flow::Ends(noticed));
     }
-    match repair::repair_record(line, active) {
+    match repair::repair_record(line.bytes, tally.active) {
         Err(stop) => match stop {
             Unrepaired::Uneven(columns) => Err(Refusal::Uneven {
-                line: number,
+                line: line.number,
                 columns,
             }),
-            Unrepaired::Mixed => Err(Refusal::Mixed { line: number }),
+            Unrepaired::Mixed => Err(Refusal::Mixed { line: line.number }),
         },
         Ok(repair) => {
-            let noticed = notice_repair(repair, line, tally, number, offset, out);
-            let read = read_even(
-                line, kind, row, new, masks, parts, noticed, number, offset, out,
-            )?;
+            let noticed = notice_repair(repair, line, tally, out);
+            let read = read_even(line, rows, parts, noticed, out)?;
             Ok(Flow::Goes(read))
         }
     }
@@ -190,57 +186,51 @@ fn read_record(
 // The header, or a record behind it.
 fn on_record(
     begun: bool,
-    line: &[u8],
-    kind: Kind,
-    row: &mut [u16; 512],
-    new: &mut [u16; 512],
-    masks: &mut [u8; 8192],
+    line: TextLine<'_>,
+    rows: &mut Rows,
     parts: &mut [Part; 256],
     tally: Tally,
-    number: u32,
-    offset: u32,
     out: &mut [u8],
 ) -> Result<Flow, Refusal>
-    requires { Here line.now row.old tally number offset × (kind ≡ kind_of line.now) }
-    ensures told { told_flow result row.new parts.new out.new ≡ landed (on_record begun number offset line.now (state_of (take tally.active row.old) parts.old tally)) out.old tally.at }
+    requires { Under rows.old.row tally }
+    ensures told { told_flow result rows.new.row parts.new out.new ≡ landed (on_record begun line.entry.number line.entry.offset line.entry.bytes.now (state_of (take tally.active rows.old.row) parts.old tally)) out.old tally.at }
     ensures few { FewFlow result }
 {
     if begun {
-        return read_record(
-            line, kind, row, new, masks, parts, tally, number, offset, out,
-        );
+        return read_record(line, rows, parts, tally, out);
     }
-    let read = header::read_header(line, row, parts, tally, number, offset, out)?;
+    let read = header::read_header(
+        line.bytes,
+        &mut rows.row,
+        parts,
+        tally,
+        line.number,
+        line.offset,
+        out,
+    )?;
     Ok(Flow::Goes(read))
 }
 
-// A line without its trailing CRs, of some kind, whose number and offset are given.
+// A line of a text, read behind the header or before it.
 pub fn read_line(
     begun: bool,
-    line: &[u8],
-    kind: Kind,
-    row: &mut [u16; 512],
-    new: &mut [u16; 512],
-    masks: &mut [u8; 8192],
+    line: TextLine<'_>,
+    rows: &mut Rows,
     parts: &mut [Part; 256],
     tally: Tally,
-    number: u32,
-    offset: u32,
     out: &mut [u8],
 ) -> Result<Flow, Refusal>
-    requires { Here line.now row.old tally number offset × (kind ≡ kind_of line.now) }
-    ensures told { told_flow result row.new parts.new out.new ≡ landed (read_line begun number offset line.now (state_of (take tally.active row.old) parts.old tally)) out.old tally.at }
+    requires { Under rows.old.row tally }
+    ensures told { told_flow result rows.new.row parts.new out.new ≡ landed (read_line begun line.entry.number line.entry.offset line.entry.bytes.now (state_of (take tally.active rows.old.row) parts.old tally)) out.old tally.at }
     ensures few { FewFlow result }
 {
-    match kind {
+    match line.kind {
         Kind::Empty | Kind::Comment => Ok(Flow::Goes(tally)),
         Kind::Reference => {
             let active = tally.active;
-            let set = header::read_reference(line, number, offset, tally, out);
+            let set = header::read_reference(line.bytes, line.number, line.offset, tally, out);
             Ok(Flow::Goes(Tally { active, ..set }))
         }
-        Kind::Star | Kind::Bar | Kind::Data => on_record(
-            begun, line, kind, row, new, masks, parts, tally, number, offset, out,
-        ),
+        Kind::Star | Kind::Bar | Kind::Data => on_record(begun, line, rows, parts, tally, out),
     }
 }

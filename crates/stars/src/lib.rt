@@ -187,7 +187,7 @@ pub fn read_columns(
     offset: u32,
     out: &mut [u8],
 ) -> Tally
-    requires { Ready row.now tally × ((offset + length line.now < 2 ^ 27) × (number < 2 ^ 27)) }
+    requires { Ready row.now tally × (offset + length line.now < 2 ^ 27) }
     ensures told { told (Ok result) row.now parts.new out.new ≡ landed (goes (columns_of line.now row.now number offset (state_of row.now parts.old tally))) out.old tally.at }
     ensures held { Same tally result }
 {
@@ -233,7 +233,7 @@ fn columns_of(
     offset: u32,
     out: &mut [u8],
 ) -> Tally
-    requires { (length row.now ≡ 512) × ((active ≤ 256) × (Ready (take active row.now) tally × ((offset + length line.now < 2 ^ 27) × (number < 2 ^ 27)))) }
+    requires { (length row.now ≡ 512) × ((active ≤ 256) × (Ready (take active row.now) tally × (offset + length line.now < 2 ^ 27))) }
     ensures told { told (Ok result) (take active row.now) parts.new out.new ≡ landed (goes (columns_of line.now (take active row.now) number offset (state_of (take active row.now) parts.old tally))) out.old tally.at }
     ensures long { length (take active row.now) ≡ active }
     ensures held { Same tally result }
@@ -274,8 +274,9 @@ pub fn read_star(
     offset: u32,
     out: &mut [u8],
 ) -> Result<Tally, Refusal>
-    requires { (tally.active ≤ 256) × (Ready (take tally.active row.old) tally × ((offset + length line.now < 2 ^ 27) × (number < 2 ^ 27))) }
+    requires { (tally.active ≤ 256) × (Ready (take tally.active row.old) tally × (offset + length line.now < 2 ^ 27)) }
     ensures told { told_row result row.new parts.new out.new ≡ landed (read_star number (placed offset (filled (length (take tally.active row.old)) (tokens_of line.now))) (state_of (take tally.active row.old) parts.old tally)) out.old tally.at }
+    ensures wide { length row.new ≡ 512 }
     ensures few { Few result }
 {
     let active = tally.active;

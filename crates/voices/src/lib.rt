@@ -133,6 +133,7 @@ pub fn step_row(
     masks: &mut [u8; 8192],
 ) -> Result<usize, Stop>
     ensures outcome { outcome_of result row.new ≡ step_row (row_of (take (min active 256) row.old)) (record_tokens (min active 256) line.now) }
+    ensures wide { length row.new ≡ 512 }
     ensures few { active_after result ≤ 256 }
 {
     match spines::mixed_run(line, row, active) {

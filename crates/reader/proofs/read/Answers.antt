@@ -66,7 +66,11 @@ returns-then-out-needed c =
     }
 
 pub write_sheet-requires : goal.write_sheet-requires
-write_sheet-requires c = (c.if-text-gt-MOST_BYTES.false, (utf8_whole c.args.text.now c.utf8_length-good.ensures c.if-good-text.false, (told_written c.args.text.now c.measure.result c.measure.ensures c.in_ok-written.was, c.if-out-needed.false)))
+write_sheet-requires c = record {
+  utf8 = utf8_whole c.args.text.now c.utf8_length-good.ensures c.if-good-text.false;
+  measured = told_written c.args.text.now c.measure.result c.measure.ensures c.in_ok-written.was;
+  room = c.if-out-needed.false;
+}
 
 pub returns : goal.returns
 returns c =

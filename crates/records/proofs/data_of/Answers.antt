@@ -1,12 +1,6 @@
-use mathlib.Core.Path.{sym}
-use Rattle.records.proofs.KindLaws.{row_length, data_told, kept_few}
+use mathlib.Core.Path.{sym, ◌∙◌}
+use Rattle.records.proofs.KindLaws.{data_told}
 use Rattle.records.proofs.data_of.Goals as goal
 
-pub slice_bounds-read_data-end : goal.slice_bounds-read_data-end
-slice_bounds-read_data-end c = sym (row_length c.requires.0)
-
-pub returns : goal.returns
-returns c = record {
-  told = data_told c.args.parts.now c.requires.0 c.args.line.now c.requires.1.1.1 c.read_data.result _ _ c.args.out.now c.args.number c.args.offset c.requires.1.1.0 c.read_data.ensures;
-  few = kept_few c.args.tally c.read_data.result c.requires.0.ready.parts_few c.read_data.ensures.1;
-}
+pub returns-clause-told : goal.returns-clause-told
+returns-clause-told c = data_told c.args.parts.now c.requires.under c.args.line.bytes.now c.requires.even c.read_data.result _ _ c.args.out.now c.args.line.number c.args.line.offset (sym c.args.line.of_kind ∙ c.requires.data_kind) c.read_data.ensures.told c.read_data.ensures.kept

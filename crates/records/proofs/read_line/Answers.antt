@@ -6,11 +6,11 @@ use Rattle.state.specs.View.{told}
 use Rattle.records.proofs.RecordLaws.{quiet_line, reference_line, record_line}
 use Rattle.records.proofs.read_line.Goals as goal
 
-pub returns-in-Star : goal.returns-in-Star
-returns-in-Star c = record { told = record_line c.args.begun _ c.args.line.now c.args.out.now (take c.args.tally.active c.args.row.now) c.args.parts.now c.args.tally c.args.number c.args.offset c.requires.1 c.in-Star.is c.on_record.ensures.told; few = c.on_record.ensures.few }
+pub returns-in-Star-clause-told : goal.returns-in-Star-clause-told
+returns-in-Star-clause-told c = record_line c.args.begun _ c.args.line.bytes.now c.args.out.now (take c.args.tally.active c.args.rows.now.row) c.args.parts.now c.args.tally c.args.line.number c.args.line.offset c.args.line.of_kind c.in-Star.is c.on_record.ensures.told
 
-pub returns-in-Empty : goal.returns-in-Empty
-returns-in-Empty c = record { told = quiet_line c.args.begun (told (Ok c.args.tally) (take c.args.tally.active c.args.row.now) c.args.parts.now c.args.out.now) c.args.line.now c.args.out.now (take c.args.tally.active c.args.row.now) c.args.parts.now c.args.tally c.args.number c.args.offset c.requires.1 c.in-Empty.is; few = c.requires.0.under.ready.parts_few }
+pub returns-in-Empty-clause-told : goal.returns-in-Empty-clause-told
+returns-in-Empty-clause-told c = quiet_line c.args.begun (told (Ok c.args.tally) (take c.args.tally.active c.args.rows.now.row) c.args.parts.now c.args.out.now) c.args.line.bytes.now c.args.out.now (take c.args.tally.active c.args.rows.now.row) c.args.parts.now c.args.tally c.args.line.number c.args.line.offset c.args.line.of_kind c.in-Empty.is
 
 pub returns-in-Reference : goal.returns-in-Reference
-returns-in-Reference c = record { told = reference_line c.args.begun _ c.args.line.now c.args.out.now (take c.args.tally.active c.args.row.now) c.args.parts.now c.args.tally c.args.number c.args.offset c.requires.1 c.in-Reference.is (c.read_reference-set.ensures.told (take c.args.tally.active c.args.row.now) c.args.parts.now); few = omega (arith, c.read_reference-set.ensures.same.parts, c.requires.0.under.ready.parts_few) }
+returns-in-Reference c = record { told = reference_line c.args.begun _ c.args.line.bytes.now c.args.out.now (take c.args.tally.active c.args.rows.now.row) c.args.parts.now c.args.tally c.args.line.number c.args.line.offset c.args.line.of_kind c.in-Reference.is (c.read_reference-set.ensures.told (take c.args.tally.active c.args.rows.now.row) c.args.parts.now); few = omega (arith, c.read_reference-set.ensures.same.parts, c.requires.ready.parts_few) }

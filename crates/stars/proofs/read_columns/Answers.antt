@@ -19,10 +19,10 @@ pub exchanges_right-right-requires : goal.exchanges_right-right-requires
 exchanges_right-right-requires c = (omega arith, (c.if-line-from.false, c.token_end-end.ensures))
 
 pub overflow_cast-at : goal.overflow_cast-at
-overflow_cast-at c = omega (arith, c.if-line-from.false, c.requires.1.0)
+overflow_cast-at c = omega (arith, c.if-line-from.false, c.requires.1)
 
 pub overflow_add-at : goal.overflow_add-at
-overflow_add-at c = omega (arith, c.if-line-from.false, c.requires.1.0)
+overflow_add-at c = omega (arith, c.if-line-from.false, c.requires.1)
 
 pub slice_bounds-read_column-end : goal.slice_bounds-read_column-end
 slice_bounds-read_column-end c = omega (arith, piece_at_lem c.if-line-from.false c.token_end-end.ensures)
@@ -31,10 +31,10 @@ pub overflow_cast-i : goal.overflow_cast-i
 overflow_cast-i c = omega (arith, c.requires.0.cells_long)
 
 pub read_column-t-requires : goal.read_column-t-requires
-read_column-t-requires c = loop_fit c.loop-i.invariant c.requires.0 c.requires.1.0 c.loop-i-test.true (piece_at_lem c.if-line-from.false c.token_end-end.ensures)
+read_column-t-requires c = loop_fit c.loop-i.invariant c.requires.0 c.requires.1 c.loop-i-test.true (piece_at_lem c.if-line-from.false c.token_end-end.ensures)
 
 pub overflow_add-from : goal.overflow_add-from
-overflow_add-from c = omega (arith, piece_at_lem c.if-line-from.false c.token_end-end.ensures, c.requires.1.0)
+overflow_add-from c = omega (arith, piece_at_lem c.if-line-from.false c.token_end-end.ensures, c.requires.1)
 
 pub loop-i-preserved : goal.loop-i-preserved
 loop-i-preserved c = loop_turn c.loop-i.invariant c.loop-i-test.true (piece_at_lem c.if-line-from.false c.token_end-end.ensures) c.exchanges_right-right.ensures (elim c.if-right.branch [ then-right w ↦ rw w.if-right.true (w.paired-is ∙ w.if-right.true) | else-right w ↦ rw w.if-right.false w.paired-is ]) c.read_column-t.ensures c.read_column-t.auto.out

@@ -3,7 +3,6 @@ use mathlib.Core.Path.{ap}
 use Prim.Native.Nat.{ℕ, ◌-◌}
 use native.Mathlib.Omega.{arith}
 use lib.ListN.{length, take, drop, length-take}
-use Rattle.lines.specs.Lines.{piece_end}
 use Rattle.lines.proofs.PieceLaws.{Piece, piece_at_lem}
 use Rattle.lines.proofs.TrimLaws.{content_short}
 use Rattle.place.proofs.Place.take_line.Goals as goal
