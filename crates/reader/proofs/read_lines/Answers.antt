@@ -16,7 +16,7 @@ pub loop-line-preserved-then-is_passed : goal.loop-line-preserved-then-is_passed
 loop-line-preserved-then-is_passed c = passed_here c.loop-line.invariant c.in-Some.ensures.taken c.in-Some.line.of_kind (sym c.is_passed.ensures ∙ c.if-is_passed.true)
 
 pub read_line-requires : goal.read_line-requires
-read_line-requires c = under c.loop-line.invariant c.loop-line.rows.wide
+read_line-requires c = under c.loop-line.invariant c.loop-line.rows.room
 
 pub returns-in_err-last : goal.returns-in_err-last
 returns-in_err-last c =
