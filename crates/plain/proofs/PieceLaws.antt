@@ -72,38 +72,6 @@ run_turn {word} {line} {from} {i} r h e =
       inside = rw (piece_more line from i r.low h) (all_in_join word (piece_at line from (i - from)) (get_or line i 0 ∷ []) r.inside (rw e));
     }
 
--- up to the first byte that is another
-all_front : (b : ℕ) (s : List ℕ) → all_in (b ∷ []) (take (position_or_len (λ x. not (eqb x b)) s) s) ≡ true
-unfolding all_in contains
-all_front b [] = refl
-all_front b (x ∷ s) = go (eqb x b) refl (all_front b s)
-  where
-    go : (t : Bool) → eqb x b ≡ t → all_in (b ∷ []) (take (position_or_len (λ y. not (eqb y b)) s) s) ≡ true
-        → all_in (b ∷ []) (take (cond (not (not t)) (1 + position_or_len (λ y. not (eqb y b)) s) 0) (x ∷ s)) ≡ true
-    go true e h =
-        let same : eqb b x ≡ true = eq-eqb b x (sym (eqb-true x b e)) in
-        let more : 1 + position_or_len (λ y. not (eqb y b)) s ≡ suc (position_or_len (λ y. not (eqb y b)) s) = omega arith in
-        rw (more, same) h
-    go false e h = refl
-
-pub run_to : (b : ℕ) (line : List ℕ) (from : ℕ) (r : Option ℕ) → from ≤ length line → r ≡ position (λ x. not (eqb x b)) (drop from line)
-    → Run (b ∷ []) line from (from + unwrap_or r (length line - from))
-run_to b line from r h e =
-    let n : ℕ = position_or_len (λ x. not (eqb x b)) (drop from line) in
-    go (ltb n (length (drop from line))) refl e
-  where
-    at : (n : ℕ) → n ≤ length line - from → all_in (b ∷ []) (take n (drop from line)) ≡ true → Run (b ∷ []) line from (from + n)
-    at n l w = let z : from + n - from ≡ n = omega arith in record { low = omega arith; high = omega arith; inside = rw z w }
-
-    go : (t : Bool) → ltb (position_or_len (λ x. not (eqb x b)) (drop from line)) (length (drop from line)) ≡ t
-        → r ≡ cond t (Some (position_or_len (λ x. not (eqb x b)) (drop from line))) None → Run (b ∷ []) line from (from + unwrap_or r (length line - from))
-    go true q p = rw p (at _ (omega (arith, ltb-true _ _ q, length-drop from line)) (all_front b (drop from line)))
-    go false q p =
-        let long : length line - from ≤ position_or_len (λ x. not (eqb x b)) (drop from line) = omega (arith, ltb-false _ _ q, length-drop from line) in
-        let whole : take (length line - from) (drop from line) ≡ take (position_or_len (λ x. not (eqb x b)) (drop from line)) (drop from line) =
-        take_all (length line - from) (drop from line) (omega (arith, length-drop from line)) ∙ sym (take_all (position_or_len (λ x. not (eqb x b)) (drop from line)) (drop from line) (omega (arith, length-drop from line))) in
-        rw p (at (length line - from) (omega arith) (ap (all_in (b ∷ [])) whole ∙ all_front b (drop from line)))
-
 -- ---- a state carried over a run
 pub carried_first : {S : Type 0} {step : S → ℕ → S} {word line : List ℕ} {from : ℕ} {s : S} → from ≤ length line
     → Carried S step word line from s s from

@@ -176,8 +176,12 @@ fn run_end(line: &[u8], from: usize, b: u8) -> usize
     requires { from ≤ length line.now }
     ensures { Run (b ∷ []) line.now from result }
 {
-    let rest = &line[from..];
-    from + rest.iter().position(|x| *x != b).unwrap_or(rest.len())
+    for i in from..line.len() {
+        if line[i] != b {
+            return i;
+        }
+    }
+    line.len()
 }
 
 // The signs from an index on.

@@ -6,3 +6,4 @@ pub mod SoundLaws
 pub mod MarkLaws
 pub mod ScanLaws
 pub mod UnknownLaws
+mod MaskLaws

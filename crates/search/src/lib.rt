@@ -1,7 +1,7 @@
 #![tactic(auto)]
 
 // A byte searched and counted in a slice, by blocks of bytes.
-ghost use Rattle.std.specs.Prelude.{◌≡◌, ◌==◌, ◌+◌, ◌≤◌, ◌<◌, length, drop, count_by};
+ghost use Rattle.std.specs.Prelude.{◌≡◌, true, ◌==◌, ◌+◌, ◌≤◌, ◌<◌, length, drop, count_by};
 ghost use Rattle.slices.specs.Split.{split, index_of};
 ghost use Rattle.search.specs.Blocks.{Without};
 
@@ -13,6 +13,17 @@ fn hits(part: &[u8], b: u8) -> u8
     part.iter().map(|&x| u8::from(x == b)).sum()
 }
 
+// Whether b is none of the bytes of a block: all are compared, and none decides alone.
+fn lacks<const N: usize>(block: &[u8; N], b: u8) -> bool
+    ensures { result ≡ true → count_by (λ x. x == b) block.now ≡ 0 }
+{
+    let mut met = false;
+    for x in block {
+        met |= *x == b;
+    }
+    !met
+}
+
 // Where the blocks of N bytes without b from `from` on end.
 fn blocks<const N: usize>(s: &[u8], b: u8, from: usize) -> usize
     requires { (0 < N) × (N ≤ 255) × (from ≤ length s.now) }
@@ -21,7 +32,7 @@ fn blocks<const N: usize>(s: &[u8], b: u8, from: usize) -> usize
     let (blocks, _) = s[from..].as_chunks::<N>();
     let mut i = from;
     for block in blocks {
-        if hits(block, b) != 0 {
+        if !lacks(block, b) {
             return i;
         }
         i += N;
@@ -51,7 +62,7 @@ pub fn find_far(s: &[u8], b: u8) -> usize
 pub fn count(s: &[u8], b: u8) -> usize
     ensures { (result ≡ length (split b s.now)) × (result ≤ length s.now + 1) }
 {
-    let (parts, rest) = s.as_chunks::<255>();
+    let (parts, rest) = s.as_chunks::<16>();
     let mut n = 0;
     for part in parts {
         n += usize::from(hits(part, b));

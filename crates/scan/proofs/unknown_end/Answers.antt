@@ -1,5 +1,4 @@
 -- The bytes up to the end are unknown marks.
-use native.Mathlib.Omega.{arith}
 use borrow.Author.Rules.{rules}
 use Rattle.scan.proofs.UnknownLaws.{unknowns_to}
 use Rattle.scan.proofs.unknown_end.Goals as goal

@@ -17,4 +17,4 @@ loop-block-preserved g c =
     blocks_more c.loop-block.invariant.0 g.row.N j c.loop-block.invariant.1 x
     (rw (rest s c.args.from) at at)
     (rw (rest s c.args.from) at below)
-    (sym c.hits.ensures ∙ c.if-hits-ne0.false)
+    (c.lacks.ensures c.if-not-lacks.false)
