@@ -1,5 +1,5 @@
 -- "Answers give: number, line, figure"; 0 for a line or a figure that a question doesn't name.
-use Rattle.std.specs.Prelude.{ℕ}
+use Rattle.std.specs.Prelude.{ℕ, List, ◌++◌, decimal, codes}
 use Rattle.refusal.specs.declared.Refusal.{Refusal}
 use Rattle.refusal.specs.declared.Refusal.TheVariants.{TooLong, NotUtf8, NotExclusive, ManyColumns, NoKern, Uneven, Mixed, StaffFull, ManySpines, ManyNotes, NoHeader, NoNote, ShortBuffer, MixedJoin}
 
@@ -53,3 +53,7 @@ figure_of NoHeader = 0
 figure_of NoNote = 0
 figure_of (ShortBuffer n) = n
 figure_of (MixedJoin k c) = c
+
+-- the three as they are printed: in decimal, with a blank between
+abbrev pub text_of : Refusal → List ℕ
+text_of r = decimal (number_of r) ++ codes " " ++ decimal (line_of r) ++ codes " " ++ decimal (figure_of r)

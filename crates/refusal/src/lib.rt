@@ -1,8 +1,8 @@
 #![tactic(auto)]
 
 // Why a text is refused: the question that it fails, with the line and the figure that the question names.
-ghost use Rattle.std.specs.Prelude.{◌≡◌, ◌<◌};
-ghost use Rattle.refusal.specs.Numbers.{number_of, line_of, figure_of};
+ghost use Rattle.std.specs.Prelude.{◌≡◌, ◌<◌, Some};
+ghost use Rattle.refusal.specs.Numbers.{number_of, line_of, figure_of, text_of};
 
 use std::error::Error;
 use std::fmt;
@@ -110,6 +110,8 @@ impl Refusal {
 
 // Number, line and figure.
 impl fmt::Display for Refusal {
+    ghost output = { λ r. Some (text_of r) };
+
     fn fmt<W: fmt::Write>(&self, f: &mut fmt::Formatter<W>) -> fmt::Result {
         write!(f, "{} {} {}", self.number(), self.line(), self.figure())
     }
