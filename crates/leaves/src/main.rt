@@ -187,6 +187,7 @@ fn answer(rt: &(impl Print + AllocGlobal), request: &[u8]) -> io::Result<()> {
     }
 }
 
+// Stays: `rows` and `tokens` have this main too; one over a closure would be a crate that promises nothing, for no clause says what is read.
 fn main(rt: HostRuntime) -> io::Result<()> {
     let alloc = rt.alloc();
     for request in BufReader::new(alloc, rt.reader())?.split(alloc, b'\n') {

@@ -8,15 +8,16 @@ use spines::Line;
 use std::io::{self, BufRead, BufReader};
 use voices::{Rows, Stop};
 
-// The header's row: the number of its columns, 256 at most.
-fn begin(header: &[u8], row: &mut [u16; 512]) -> usize {
+// The header's row, by the letters of its columns.
+fn header_row(letters: &[u8]) -> [u16; 512] {
+    let mut row = [0; 512];
     let mut part = 0u8;
-    for (cell, letter) in row.iter_mut().zip(header) {
+    for (cell, letter) in row.iter_mut().zip(letters) {
         let line = (*letter == b'k').then_some(Line { part, voice: 0 });
         *cell = spines::cell_at(&[line], 0);
         part = part.wrapping_add(u8::from(line.is_some()));
     }
-    header.len().min(256)
+    row
 }
 
 fn print_row(rt: &impl Print, row: &[u16]) -> io::Result<()> {
@@ -33,22 +34,30 @@ fn print_row(rt: &impl Print, row: &[u16]) -> io::Result<()> {
     Ok(())
 }
 
-fn answer(rt: &impl Print, request: &[u8]) -> io::Result<()> {
-    let mut rows = Rows::empty();
+// Takes the row through a request's header and its records: how many spines are active then.
+fn walk(request: &[u8], rows: &mut Rows) -> Result<usize, Stop> {
     let mut records = request.split(|b| *b == b'|');
     let header = records.next().unwrap_or(b"");
-    let mut active = begin(header.strip_prefix(b"V").unwrap_or(header), &mut rows.row);
+    let letters = header.strip_prefix(b"V").unwrap_or(header);
+    rows.row = header_row(letters);
+    let mut active = letters.len().min(256);
     for record in records {
-        match rows.step(record, active) {
-            Ok(count) => active = count,
-            Err(Stop::Mixed(column)) => return print!(rt; "17 {column}"),
-            Err(Stop::Voiceless(_)) => return print!(rt; "8"),
-            Err(Stop::Wide(_)) => return print!(rt; "9"),
-        }
+        active = rows.step(record, active)?;
     }
-    print_row(rt, &rows.row[..active.min(512)])
+    Ok(active)
 }
 
+fn answer(rt: &impl Print, request: &[u8]) -> io::Result<()> {
+    let mut rows = Rows::empty();
+    match walk(request, &mut rows) {
+        Ok(active) => print_row(rt, &rows.row[..active.min(512)]),
+        Err(Stop::Mixed(column)) => print!(rt; "17 {column}"),
+        Err(Stop::Voiceless(_)) => print!(rt; "8"),
+        Err(Stop::Wide(_)) => print!(rt; "9"),
+    }
+}
+
+// Stays: `leaves` and `tokens` have this main too; one over a closure would be a crate that promises nothing, for no clause says what is read.
 fn main(rt: HostRuntime) -> io::Result<()> {
     let alloc = rt.alloc();
     for request in BufReader::new(alloc, rt.reader())?.split(alloc, b'\n') {

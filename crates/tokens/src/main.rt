@@ -17,6 +17,7 @@ fn print_bytes(rt: &impl Print, bytes: &[u8]) -> io::Result<()> {
 }
 
 // The flags of a note, as a NOTE has them.
+// Stays: `notes::flags_of` again, which is private to the crate that writes NOTEs, and that stands above all that this program replays.
 fn flags_of(n: Note) -> u8 {
     u8::from(n.rest)
         + 2 * u8::from(n.ties)
@@ -86,6 +87,7 @@ fn answer(rt: &(impl Print + AllocGlobal), line: &[u8]) -> io::Result<()> {
     }
 }
 
+// Stays: `leaves` and `rows` have this main too; one over a closure would be a crate that promises nothing, for no clause says what is read.
 fn main(rt: HostRuntime) -> io::Result<()> {
     let alloc = rt.alloc();
     for request in BufReader::new(alloc, rt.reader())?.split(alloc, b'\n') {
