@@ -1,22 +1,20 @@
--- The header's tokens one by one: whether all begin `**`, the table of active spines, and the first row.
-use mathlib.Core.Path.{◌≡◌, refl, sym, ap, ap₂, ◌∙◌}
-use Prim.Native.Nat.{ℕ, ◌+◌, ◌-◌, ◌*◌, ◌/◌, ◌%◌, ◌≤◌, ◌<◌}
-use native.Mathlib.Nat.{add-zero}
+-- The header's tokens one by one: the table of active spines, and the first row.
+use mathlib.Core.Path.{◌≡◌, refl, sym, ap, ap₂, subst, ◌∙◌}
+use Prim.Native.Nat.{ℕ, zero, suc, ◌+◌, ◌*◌, ◌/◌, ◌%◌, ◌≤◌, ◌<◌}
+use native.Mathlib.Nat.{add-zero, zero-add}
 use native.Mathlib.Numerals.{add-one}
 use native.Mathlib.Omega.{arith}
-use mathlib.Core.Bool.{Bool, true, false, ◌&&◌}
+use mathlib.Core.Bool.{Bool, true, false}
 use mathlib.Core.List.{List, [], ◌∷◌, ◌++◌, map, append_assoc, append-nil}
-use lib.ListN.{length, get_or, take, drop, set, length-set, get_or-map}
-use lib.Seq.{take-suc, take-suc-set}
-use Rattle.slices.specs.Split.{pieces}
-use Rattle.slices.proofs.SplitLaws.{no_piece, all_pieces}
-use Rattle.lines.specs.Lines.{piece_end}
-use Rattle.lines.specs.Tokens.{tokens_of, is_kern, is_exclusive}
-use Rattle.lines.proofs.PieceLaws.{piece_at_lem}
+use lib.ListN.{length, get_or, take, drop, set, replicate, length-set, get_or-map, drop_of_length-le}
+use lib.Seq.{take-suc, take-suc-set, get_or-set_other, drop-cons, length-take-le}
+use Rattle.std.specs.List.{enumerate_from}
+use Rattle.std.proofs.lemmas.List.{take_at, length-replicate, set-get_or}
+use Rattle.std.proofs.lemmas.List.FromFn.{length-enumerate_from, get_or-enumerate_from}
+use Rattle.lines.specs.Tokens.{tokens_of, is_kern}
 use Rattle.paths.specs.declared.Spine.{Spine}
 use Rattle.paths.specs.declared.Spine.TheVariants.{Line, Outside}
 use Rattle.paths.specs.Text.{header_from, header_row}
-use Rattle.repair.specs.Repair.{each}
 use Rattle.spines.specs.Cells.{spine_of, row_of}
 use Rattle.spines.specs.Table.{active_at, cell_of, cells_of}
 use Rattle.std.proofs.Common.{Option, Some, None}
@@ -58,106 +56,114 @@ unfolding fresh_parts
 fresh_one true p = omega arith
 fresh_one false p = omega arith
 
--- ---- the table: i spines are written, with p parts
-pub record Filling (s : List ℕ) (spines : List (Option Active-line)) (from i p : ℕ) : Type 0 where
-  pub kept : length spines ≡ 256
-  pub low : p ≤ i
-  pub count : i + length (pieces 9 from s) ≡ length (tokens_of s)
-  pub same : row_of (take i (cells_of spines)) ++ header_from p (map is_kern (pieces 9 from s)) ≡ header_row (map is_kern (tokens_of s))
-  pub fresh : p + length (fresh_parts p (map is_kern (pieces 9 from s))) ≡ length (fresh_parts 0 (map is_kern (tokens_of s)))
+-- a token and its number, as a loop over the tokens is given them
+pub token_turn : (ts : List (List ℕ)) {n i : ℕ} {x : List ℕ} → (n < length (enumerate_from 0 ts)) × ((i, x) ≡ get_or (enumerate_from 0 ts) n (i, x))
+    → (n < length ts) × ((i ≡ n) × (x ≡ get_or ts n x))
+token_turn ts {n} {i} {x} t =
+    let lt : n < length ts = omega (arith, t.0, length-enumerate_from 0 ts) in
+    let e : (i, x) ≡ (0 + n, get_or ts n x) = t.1 ∙ get_or-enumerate_from 0 ts n (i, x) lt in
+    (lt, (ap (λ (p : ℕ × List ℕ). p.0) e ∙ zero-add n, ap (λ (p : ℕ × List ℕ). p.1) e))
 
-pub filling_first : {s : List ℕ} {spines : List (Option Active-line)} → length spines ≡ 256 → Filling s spines 0 0 0
+-- ---- the table: the spines of the first n tokens are written, with p parts
+pub record Filling (ts : List (List ℕ)) (spines : List (Option Active-line)) (n p : ℕ) : Type 0 where
+  pub kept : length spines ≡ 256
+  pub low : p ≤ n
+  pub clear : (k : ℕ) → n ≤ k → active_at spines k ≡ None
+  pub same : row_of (take n (cells_of spines)) ++ header_from p (map is_kern (drop n ts)) ≡ header_row (map is_kern ts)
+  pub fresh : p + length (fresh_parts p (map is_kern (drop n ts))) ≡ length (fresh_parts 0 (map is_kern ts))
+
+none_at : (m k : ℕ) → active_at (replicate m None) k ≡ None
+none_at zero k = refl
+none_at (suc m) zero = refl
+none_at (suc m) (suc k) = none_at m k
+
+pub filling_first : (ts : List (List ℕ)) → Filling ts (replicate 256 None) 0 0
 unfolding row_of
-filling_first {s} k = record {
-  kept = k;
+filling_first ts = record {
+  kept = length-replicate {A = Option Active-line} 256 None;
   low = omega arith;
-  count = omega (arith, ap length (all_pieces 9 s));
-  same = ap (λ (l : List (List ℕ)). header_from 0 (map is_kern l)) (all_pieces 9 s);
-  fresh = omega (arith, ap (λ (l : List (List ℕ)). length (fresh_parts 0 (map is_kern l))) (all_pieces 9 s));
+  clear = λ k h. none_at 256 k;
+  same = refl;
+  fresh = zero-add (length (fresh_parts 0 (map is_kern ts)));
 }
 
-module _ {s : List ℕ} {spines : List (Option Active-line)} {from i p e : ℕ} (inv : Filling s spines from i p) (few : length (tokens_of s) ≤ 256) (h : from ≤ length s) (at : e ≡ piece_end 9 s from) where
-  here_piece : pieces 9 from s ≡ take (e - from) (drop from s) ∷ pieces 9 (e + 1) s
-  here_piece = (piece_at_lem h at).here
+module _ {ts : List (List ℕ)} {spines : List (Option Active-line)} {n p : ℕ} (inv : Filling ts spines n p) (few : length ts ≤ 256) (lt : n < length ts) (x : List ℕ) (is : x ≡ get_or ts n x) where
+  here : drop n ts ≡ x ∷ drop (n + 1) ts
+  here = drop-cons ts n x lt ∙ ap₂ (λ (y : List ℕ) (k : ℕ). y ∷ drop k ts) (sym is) (sym (add-one n))
 
-  pub filling_room : i < 256
-  filling_room = omega (arith, inv.count, ap length here_piece)
-
-  module _ (a : Option Active-line) {q : ℕ} (col : (spine_of (cell_of a) ∷ [] ≡ header_from p (is_kern (take (e - from) (drop from s)) ∷ [])) × (q ≡ p + length (fresh_parts p (is_kern (take (e - from) (drop from s)) ∷ [])))) where
-    pub filling_turn : Filling s (set spines i a) (e + 1) (i + 1) q
+  module _ (a : Option Active-line) {q : ℕ} (col : (spine_of (cell_of a) ∷ [] ≡ header_from p (is_kern x ∷ [])) × (q ≡ p + length (fresh_parts p (is_kern x ∷ [])))) where
+    filling_turn : Filling ts (set spines n a) (n + 1) q
     unfolding row_of
     filling_turn =
-        let b = is_kern (take (e - from) (drop from s)) in
-        let ks = map is_kern (pieces 9 (e + 1) s) in
+        let b = is_kern x in
+        let ks = map is_kern (drop (n + 1) ts) in
         let row = cells_of spines in
         let c = cell_of a in
-        let m : header_from p (map is_kern (pieces 9 from s)) ≡ header_from p (b ∷ ks) = ap (λ (x : List (List ℕ)). header_from p (map is_kern x)) here_piece in
-        let f : length (fresh_parts p (map is_kern (pieces 9 from s))) ≡ length (fresh_parts p (b ∷ ks)) = ap (λ (x : List (List ℕ)). length (fresh_parts p (map is_kern x))) here_piece in
-        let w : take (i + 1) (cells_of (set spines i a)) ≡ take i row ++ (c ∷ []) =
-        ap₂ take (add-one i) (cells_set spines i a) ∙ take-suc-set row i c (omega (arith, filling_room, inv.kept, cells_length spines)) in
+        let m : header_from p (map is_kern (drop n ts)) ≡ header_from p (b ∷ ks) = ap (λ (l : List (List ℕ)). header_from p (map is_kern l)) here in
+        let f : length (fresh_parts p (map is_kern (drop n ts))) ≡ length (fresh_parts p (b ∷ ks)) = ap (λ (l : List (List ℕ)). length (fresh_parts p (map is_kern l))) here in
+        let w : take (n + 1) (cells_of (set spines n a)) ≡ take n row ++ (c ∷ []) =
+        ap₂ take (add-one n) (cells_set spines n a) ∙ take-suc-set row n c (omega (arith, inv.kept, cells_length spines)) in
         record {
-          kept = length-set spines i a ∙ inv.kept;
+          kept = length-set spines n a ∙ inv.kept;
           low = omega (arith, inv.low, col.1, fresh_one b p);
-          count = omega (arith, inv.count, ap length here_piece);
+          clear = λ k h. get_or-set_other spines n k a None (λ e. omega arith) ∙ inv.clear k (omega arith);
           same =
-              ap₂ (λ (x : List ℕ) (n : ℕ). row_of x ++ header_from n ks) w col.1
-              ∙ ap (λ (x : List Spine). x ++ header_from (p + length (fresh_parts p (b ∷ []))) ks) (row_append (take i row) (c ∷ []))
-              ∙ append_assoc (row_of (take i row)) (spine_of c ∷ []) (header_from (p + length (fresh_parts p (b ∷ []))) ks)
-              ∙ ap (λ (x : List Spine). row_of (take i row) ++ (x ++ header_from (p + length (fresh_parts p (b ∷ []))) ks)) col.0
-              ∙ ap (λ (x : List Spine). row_of (take i row) ++ x) (sym (m ∙ header_more b p ks))
+              ap₂ (λ (l : List ℕ) (i : ℕ). row_of l ++ header_from i ks) w col.1
+              ∙ ap (λ (l : List Spine). l ++ header_from (p + length (fresh_parts p (b ∷ []))) ks) (row_append (take n row) (c ∷ []))
+              ∙ append_assoc (row_of (take n row)) (spine_of c ∷ []) (header_from (p + length (fresh_parts p (b ∷ []))) ks)
+              ∙ ap (λ (l : List Spine). row_of (take n row) ++ (l ++ header_from (p + length (fresh_parts p (b ∷ []))) ks)) col.0
+              ∙ ap (λ (l : List Spine). row_of (take n row) ++ l) (sym (m ∙ header_more b p ks))
               ∙ inv.same;
-          fresh = omega (arith, inv.fresh, f, fresh_more b p ks, col.1, ap (λ (n : ℕ). length (fresh_parts n ks)) col.1);
+          fresh = omega (arith, inv.fresh, f, fresh_more b p ks, col.1, ap (λ (i : ℕ). length (fresh_parts i ks)) col.1);
         }
 
-pub filling_past : {s : List ℕ} {spines : List (Option Active-line)} {from i p : ℕ} → Filling s spines from i p → length s < from → HeaderTable (tokens_of s) spines i p
+  -- a kern token's spine is written; one outside kern stays as it was
+  pub filling_kern : is_kern x ≡ true → Filling ts (set spines n (Some (record { part = p; voice = 0 }))) (n + 1) (p + 1)
+  filling_kern e = filling_turn (Some (record { part = p; voice = 0 })) (column_kern x p e)
+
+  pub filling_other : is_kern x ≡ false → Filling ts spines (n + 1) p
+  filling_other e =
+      let same : set spines n None ≡ spines = ap (set spines n) (sym (inv.clear n (omega arith))) ∙ set-get_or spines n None in
+      subst (λ (l : List (Option Active-line)). Filling ts l (n + 1) p) same (filling_turn None (column_other x p e))
+
+pub filling_past : {ts : List (List ℕ)} {spines : List (Option Active-line)} {n p : ℕ} → Filling ts spines n p → n ≡ length ts → HeaderTable ts spines p
 unfolding header_from fresh_parts
-filling_past {s} {spines} {from} {i} {p} inv h =
-    let none : pieces 9 from s ≡ [] = no_piece 9 from s h in
+filling_past {ts} {spines} {n} {p} inv h =
+    let none : drop n ts ≡ [] = drop_of_length-le ts {i = n} (omega arith) in
     record {
-      columns = omega (arith, inv.count, ap length none);
-      few = inv.low;
+      few = omega (arith, inv.low);
       row =
-          sym (append-nil (row_of (take i (cells_of spines))))
-          ∙ ap (λ (x : List (List ℕ)). row_of (take i (cells_of spines)) ++ header_from p (map is_kern x)) (sym none)
+          ap (λ (k : ℕ). row_of (take k (cells_of spines))) (sym h)
+          ∙ sym (append-nil (row_of (take n (cells_of spines))))
+          ∙ ap (λ (l : List (List ℕ)). row_of (take n (cells_of spines)) ++ header_from p (map is_kern l)) (sym none)
           ∙ inv.same;
-      parts = omega (arith, inv.fresh, ap (λ (x : List (List ℕ)). length (fresh_parts p (map is_kern x))) none);
+      parts = omega (arith, inv.fresh, ap (λ (l : List (List ℕ)). length (fresh_parts p (map is_kern l))) none);
     }
 
 -- ---- the row: i cells are written
-cells_at : (l : List (Option Active-line)) (i : ℕ) → get_or (cells_of l) i 0 ≡ cell_of (active_at l i)
+pub cells_at : (l : List (Option Active-line)) (i : ℕ) → get_or (cells_of l) i 0 ≡ cell_of (active_at l i)
 unfolding cells_of cell_of
 cells_at l i = get_or-map cell_of l i None
 
-pub record Laying (table : List (Option Active-line)) (n : ℕ) (row : List ℕ) (i : ℕ) : Type 0 where
-  pub kept : length row ≡ 512
-  pub high : i ≤ n
-  pub same : take i row ≡ take i (cells_of table)
+abbrev pub Laying : List (Option Active-line) → List ℕ → ℕ → Type 0
+Laying table row i = take i row ≡ take i (cells_of table)
 
-pub laying_first : {table : List (Option Active-line)} {n : ℕ} {row : List ℕ} → length row ≡ 512 → Laying table n row 0
-laying_first k = record { kept = k; high = omega arith; same = refl }
-
-pub laying_turn : {table : List (Option Active-line)} {n : ℕ} {row : List ℕ} {i c : ℕ} → Laying table n row i → length table ≡ 256 → n ≤ 256 → i < n
-    → c ≡ cell_of (active_at table i) → Laying table n (set row i c) (i + 1)
-laying_turn {table} {n} {row} {i} {c} inv l few h e = record {
-  kept = length-set row i c ∙ inv.kept;
-  high = omega arith;
-  same =
-      ap (λ (k : ℕ). take k (set row i c)) (add-one i)
-      ∙ take-suc-set row i c (omega (arith, inv.kept))
-      ∙ ap₂ (λ (x : List ℕ) (y : ℕ). x ++ (y ∷ [])) inv.same (e ∙ sym (cells_at table i))
-      ∙ sym (ap (λ (k : ℕ). take k (cells_of table)) (add-one i) ∙ take-suc (cells_of table) i 0 (omega (arith, cells_length table)));
-}
-
-pub laying_past : {table : List (Option Active-line)} {n : ℕ} {row : List ℕ} {i : ℕ} → Laying table n row i → n ≤ i → take n row ≡ take n (cells_of table)
-laying_past {table} {n} {row} {i} inv h =
-    let z : n ≡ i = omega (arith, inv.high) in
-    ap (λ (k : ℕ). take k row) z ∙ inv.same ∙ ap (λ (k : ℕ). take k (cells_of table)) (sym z)
+pub laying_turn : (table : List (Option Active-line)) (row : List ℕ) {i c : ℕ} → Laying table row i → i < length row → length row ≤ length table
+    → c ≡ cell_of (active_at table i) → Laying table (set row i c) (i + 1)
+laying_turn table row {i} {c} inv h few e =
+    ap (λ (k : ℕ). take k (set row i c)) (add-one i)
+    ∙ take-suc-set row i c h
+    ∙ ap₂ (λ (x : List ℕ) (y : ℕ). x ++ (y ∷ [])) inv (e ∙ sym (cells_at table i))
+    ∙ sym (ap (λ (k : ℕ). take k (cells_of table)) (add-one i) ∙ take-suc (cells_of table) i 0 (omega (arith, cells_length table)))
 
 -- the first row, of the table's cells
-pub row_laid : (s row : List ℕ) {spines : List (Option Active-line)} {n p : ℕ} → length (tokens_of s) ≤ 256 → HeaderTable (tokens_of s) spines n p → take n row ≡ take n (cells_of spines)
-    → (row_of (take (length (tokens_of s)) row) ≡ header_row (map is_kern (tokens_of s))) × ((p ≡ length (fresh_parts 0 (map is_kern (tokens_of s)))) × (p ≤ 256))
-row_laid s row {spines} {n} {p} few t e =
-    (ap (λ (k : ℕ). row_of (take k row)) (sym t.columns) ∙ ap row_of e ∙ t.row, (t.parts, omega (arith, t.few, t.columns)))
+pub row_laid : (s old row : List ℕ) {spines : List (Option Active-line)} {n p : ℕ} → n ≡ length (tokens_of s) → n ≤ length old → length (tokens_of s) ≤ 256 → HeaderTable (tokens_of s) spines p
+    → length row ≡ length (take n old) → row ≡ take (length (take n old)) (cells_of spines)
+    → (row_of (take (length (tokens_of s)) (row ++ drop n old)) ≡ header_row (map is_kern (tokens_of s))) × ((p ≡ length (fresh_parts 0 (map is_kern (tokens_of s)))) × (p ≤ 256))
+row_laid s old row {spines} {n} {p} count room few t long e =
+    let l : length row ≡ n = long ∙ length-take-le n old room in
+    let back : take (length (tokens_of s)) (row ++ drop n old) ≡ row = ap (λ (k : ℕ). take k (row ++ drop n old)) (sym count) ∙ take_at row (drop n old) n l in
+    (ap row_of (back ∙ e ∙ ap (λ (k : ℕ). take k (cells_of spines)) (length-take-le n old room ∙ count)) ∙ t.row, (t.parts, omega (arith, t.few)))
 
 -- question 5: no part, no `**kern`
 pub any_none : (p : ℕ) (ks : List Bool) → length (fresh_parts p ks) ≡ 0 → any_kern ks ≡ false

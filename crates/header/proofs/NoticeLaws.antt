@@ -1,20 +1,19 @@
 -- Reference records, and the header's notices, as they land in the buffer.
 use Rattle.std.specs.Prelude.{Ok}
 use mathlib.Core.Path.{◌≡◌, refl, sym, ap, ap₂, ◌∙◌, subst}
-use Prim.Native.Nat.{ℕ, ◌+◌, ◌-◌, ◌≤◌, ◌<◌, ◌^◌}
+use Prim.Native.Nat.{ℕ, ◌+◌, ◌≤◌, ◌<◌}
 use native.Mathlib.Numerals.{add-one}
 use native.Mathlib.Omega.{arith}
 use mathlib.Core.Bool.{Bool, true, false, cond}
 use mathlib.Core.List.{List, [], ◌∷◌}
-use lib.ListN.{length, take, drop, length-drop}
-use lib.Seq.{length-take-le}
-use Rattle.slices.specs.Split.{pieces}
-use Rattle.slices.proofs.SplitLaws.{no_piece, all_pieces}
+use lib.Dec.{eqb}
+use lib.ListN.{length, drop, get_or, drop_of_length-le}
+use lib.Seq.{drop-cons}
+use Rattle.slices.specs.Split.{join, split}
+use Rattle.slices.proofs.SplitLaws.{first_piece}
 use Rattle.state.proofs.CountLaws.{same, same_same}
 use Rattle.state.specs.Counts.{Same}
-use Rattle.lines.specs.Lines.{piece_end}
 use Rattle.lines.specs.Tokens.{tokens_of, is_kern}
-use Rattle.lines.proofs.PieceLaws.{piece_at_lem}
 use Rattle.sheet.specs.Record.{span_of}
 use Rattle.reading.specs.State.{State, Result, goes}
 use Rattle.reading.specs.declared.Part.{Part}
@@ -80,67 +79,77 @@ carry t cells parts last out at r f e =
     ∙ ap₂ (λ (x : List ℕ) (y : ℕ). landed (goes (f r.state)) x y) o p
     ∙ sym (landed_after r f out at)
 
--- the loop: what the columns left come to from here is what all come to from the start
-pub record Noticing (s : List ℕ) (k offset : ℕ) (t₀ : Tally) (out₀ : List ℕ) (t : Tally) (out : List ℕ) (from j : ℕ) : Type 0 where
+-- how far tokens reach, each with the byte behind it
+abbrev pub width : List (List ℕ) → ℕ
+width [] = 0
+width (t ∷ ts) = length t + 1 + width ts
+
+width_join : (b : Bool) (x : ℕ) (p : List ℕ) (ps : List (List ℕ)) → width (join b x (p ∷ ps)) ≡ width (p ∷ ps) + 1
+unfolding join
+width_join true x p ps = omega arith
+width_join false x p ps = omega arith
+
+pub width_line : (b : ℕ) (s : List ℕ) → width (split b s) ≡ length s + 1
+unfolding split
+width_line b [] = refl
+width_line b (x ∷ s) =
+    let e = first_piece b s in
+    ap (λ (ps : List (List ℕ)). width (join (eqb x b) x ps)) e
+    ∙ width_join (eqb x b) x _ _
+    ∙ ap (λ (ps : List (List ℕ)). width ps + 1) (sym e)
+    ∙ omega (arith, width_line b s)
+
+-- the loop: what the tokens from n on come to from here is what all come to from the start
+pub record Noticing (s : List ℕ) (k offset : ℕ) (t₀ : Tally) (out₀ : List ℕ) (t : Tally) (out : List ℕ) (at n : ℕ) : Type 0 where
   pub kept : length out ≡ length out₀
   pub same : Same t₀ t
-  pub count : j + length (pieces 9 from s) ≡ 1 + length (tokens_of s)
+  pub place : at + width (drop n (tokens_of s)) ≡ offset + length s + 1
   pub left : (cells : List ℕ) (parts : List Part)
-      → landed (goes (notice_others k j (placed (offset + from) (pieces 9 from s)) (state_of cells parts t))) out t.at
+      → landed (goes (notice_others k (n + 1) (placed at (drop n (tokens_of s))) (state_of cells parts t))) out t.at
       ≡ landed (goes (notice_others k 1 (placed offset (tokens_of s)) (state_of cells parts t₀))) out₀ t₀.at
 
-pub noticing_first : {s : List ℕ} {k offset : ℕ} {t : Tally} {out : List ℕ} → Noticing s k offset t out t out 0 1
-noticing_first {s} {k} {offset} {t} {out} = record {
+pub noticing_first : (s : List ℕ) (k offset : ℕ) (t : Tally) (out : List ℕ) → Noticing s k offset t out t out offset 0
+noticing_first s k offset t out = record {
   kept = refl;
   same = same t;
-  count = ap (λ (l : List (List ℕ)). 1 + length l) (all_pieces 9 s);
-  left =
-      λ cells parts.
-      ap₂ (λ (a : ℕ) (l : List (List ℕ)). landed (goes (notice_others k 1 (placed a l) (state_of cells parts t))) out t.at) (omega arith) (all_pieces 9 s);
+  place = omega (arith, width_line 9 s);
+  left = λ cells parts. refl;
 }
 
-module _ {s : List ℕ} {k offset : ℕ} {t₀ t : Tally} {out₀ out : List ℕ} {from j e : ℕ} (inv : Noticing s k offset t₀ out₀ t out from j)
-    (h : from ≤ length s) (at : e ≡ piece_end 9 s from) where
-  here_piece : pieces 9 from s ≡ take (e - from) (drop from s) ∷ pieces 9 (e + 1) s
-  here_piece = (piece_at_lem h at).here
+module _ {s : List ℕ} {k offset : ℕ} {t₀ t : Tally} {out₀ out : List ℕ} {at n : ℕ} (inv : Noticing s k offset t₀ out₀ t out at n)
+    (lt : n < length (tokens_of s)) (x : List ℕ) (is : x ≡ get_or (tokens_of s) n x) where
+  here : drop n (tokens_of s) ≡ x ∷ drop (n + 1) (tokens_of s)
+  here = drop-cons (tokens_of s) n x lt ∙ ap₂ (λ (y : List ℕ) (j : ℕ). y ∷ drop j (tokens_of s)) (sym is) (sym (add-one n))
 
-  pub noticing_room : length (tokens_of s) ≤ 256 → j ≤ 256
-  noticing_room few = omega (arith, inv.count, ap length here_piece)
-
-  long : length (take (e - from) (drop from s)) ≡ e - from
-  long = length-take-le (e - from) (drop from s) (omega (arith, length-drop from s, (piece_at_lem h at).high))
-
-  pub token_short : offset + length s < 2 ^ 27 → length (take (e - from) (drop from s)) < 2 ^ 32
-  token_short few = omega (arith, long, (piece_at_lem h at).high)
+  pub noticing_room : at + length x ≤ offset + length s
+  noticing_room = omega (arith, inv.place, ap width here)
 
   pub noticing_turn : {r : Tally} {last : List ℕ} → length last ≡ length out
-      → Same t r × ((cells : List ℕ) (parts : List Part) → told (Ok r) cells parts last ≡ landed (goes (notice_other k j (offset + from) (take (e - from) (drop from s)) (state_of cells parts t))) out t.at)
-      → Noticing s k offset t₀ out₀ r last (e + 1) (j + 1)
+      → Same t r × ((cells : List ℕ) (parts : List Part) → told (Ok r) cells parts last ≡ landed (goes (notice_other k (n + 1) at x (state_of cells parts t))) out t.at)
+      → Noticing s k offset t₀ out₀ r last (at + (length x + 1)) (n + 1)
   noticing_turn {r} {last} l w = record {
     kept = l ∙ inv.kept;
     same = same_same inv.same w.0;
-    count = omega (arith, inv.count, ap length here_piece);
+    place = omega (arith, inv.place, ap width here);
     left =
         λ cells parts.
-        ap (λ (a : ℕ). landed (goes (notice_others k (j + 1) (placed a (pieces 9 (e + 1) s)) (state_of cells parts r))) last r.at) place
-        ∙ carry r cells parts last out t.at (notice_other k j (offset + from) token (state_of cells parts t)) (notice_others k (j + 1) (placed (offset + from + length token + 1) (pieces 9 (e + 1) s))) (w.1 cells parts)
-        ∙ ap (λ (x : Result). landed (goes x) out t.at) (sym (others_here k j (offset + from) token (pieces 9 (e + 1) s) (state_of cells parts t)))
-        ∙ ap (λ (x : List (List ℕ)). landed (goes (notice_others k j (placed (offset + from) x) (state_of cells parts t))) out t.at) (sym here_piece)
+        ap (λ (a : ℕ). landed (goes (notice_others k (n + 1 + 1) (placed a (drop (n + 1) (tokens_of s))) (state_of cells parts r))) last r.at) next
+        ∙ carry r cells parts last out t.at (notice_other k (n + 1) at x (state_of cells parts t)) (notice_others k (n + 1 + 1) (placed (at + length x + 1) (drop (n + 1) (tokens_of s)))) (w.1 cells parts)
+        ∙ ap (λ (q : Result). landed (goes q) out t.at) (sym (others_here k (n + 1) at x (drop (n + 1) (tokens_of s)) (state_of cells parts t)))
+        ∙ ap (λ (q : List (List ℕ)). landed (goes (notice_others k (n + 1) (placed at q) (state_of cells parts t))) out t.at) (sym here)
         ∙ inv.left cells parts;
   }
     where
-      token : List ℕ
-      token = take (e - from) (drop from s)
+      next : at + (length x + 1) ≡ at + length x + 1
+      next = omega arith
 
-      place : offset + (e + 1) ≡ offset + from + length token + 1
-      place = omega (arith, long, (piece_at_lem h at).low)
-
-pub noticing_past : {s : List ℕ} {k offset : ℕ} {t₀ t : Tally} {out₀ out : List ℕ} {from j : ℕ} → Noticing s k offset t₀ out₀ t out from j → length s < from
+pub noticing_past : {s : List ℕ} {k offset : ℕ} {t₀ t : Tally} {out₀ out : List ℕ} {at n : ℕ} → Noticing s k offset t₀ out₀ t out at n → n ≡ length (tokens_of s)
     → Same t₀ t × ((cells : List ℕ) (parts : List Part) → told (Ok t) cells parts out ≡ landed (goes (notice_others k 1 (placed offset (tokens_of s)) (state_of cells parts t₀))) out₀ t₀.at)
 unfolding notice_others placed laid behind
-noticing_past {s} {k} {offset} {t₀} {t} {out₀} {out} {from} {j} inv h = (
+noticing_past {s} {k} {offset} {t₀} {t} {out₀} {out} {at} {n} inv h = (
   inv.same,
   λ cells parts.
-      ap (λ (x : List (List ℕ)). landed (goes (notice_others k j (placed (offset + from) x) (state_of cells parts t))) out t.at) (sym (no_piece 9 from s h))
+      ap (λ (q : List (List ℕ)). landed (goes (notice_others k (n + 1) (placed at q) (state_of cells parts t))) out t.at)
+      (sym (drop_of_length-le (tokens_of s) {i = n} (omega arith)))
       ∙ inv.left cells parts,
 )

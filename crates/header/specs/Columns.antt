@@ -14,9 +14,8 @@ use Rattle.reading.specs.Header.{fresh_parts}
 unfoldable pub notice_other : ℕ → ℕ → ℕ → List ℕ → State → Result
 notice_other k j at token st = cond (is_kern token) (quiet st) (notify 2 k j (span_of at (length token)) st)
 
--- of a header's tokens: the cells of the first n spines are the first row, and p the parts
-pub record HeaderTable (ts : List (List ℕ)) (spines : List (Option Line)) (n p : ℕ) : Type 0 where
-  pub columns : n ≡ length ts
-  pub few : p ≤ n
-  pub row : row_of (take n (cells_of spines)) ≡ header_row (map is_kern ts)
+-- of a header's tokens: the cells of as many spines are the first row, and p the parts
+pub record HeaderTable (ts : List (List ℕ)) (spines : List (Option Line)) (p : ℕ) : Type 0 where
+  pub few : p ≤ length ts
+  pub row : row_of (take (length ts) (cells_of spines)) ≡ header_row (map is_kern ts)
   pub parts : p ≡ length (fresh_parts 0 (map is_kern ts))

@@ -1,12 +1,12 @@
 #![tactic(auto)]
 
 // Reference records, and the header: the first row and its parts.
-ghost use Rattle.std.specs.Prelude.{◌≡◌, Bool, List, [], ◌∷◌, map, ℕ, ◌+◌, ◌≤◌, ◌<◌, ◌^◌, length, take};
+ghost use Rattle.std.specs.Prelude.{◌≡◌, Bool, List, map, ℕ, ◌≤◌, ◌<◌, ◌^◌, length, take};
 ghost use Rattle.lines.specs.Tokens.{tokens_of, is_kern, is_exclusive};
-ghost use Rattle.paths.specs.Text.{header_from, header_row};
+ghost use Rattle.paths.specs.Text.{header_row};
 ghost use Rattle.repair.specs.Repair.{each};
-ghost use Rattle.spines.specs.Cells.{spine_of, row_of};
-ghost use Rattle.spines.specs.Table.{cell_of, cells_of};
+ghost use Rattle.spines.specs.Cells.{row_of};
+ghost use Rattle.spines.specs.Table.{cells_of};
 ghost use Rattle.reading.specs.State.{goes};
 ghost use Rattle.reading.specs.declared.Part.{Part};
 ghost use Rattle.reading.specs.Notices.{placed};
@@ -17,6 +17,7 @@ ghost use Rattle.header.specs.Columns.{notice_other, HeaderTable};
 ghost use Rattle.state.specs.Counts.{Same};
 
 use notice::Code;
+use place::TextLine;
 use reading::Part;
 use reference::Key;
 use refusal::Refusal;
@@ -25,13 +26,12 @@ use spines::Line;
 use state::Tally;
 
 // A reference record: `!!!OTL`, `!!!COM` and `!!!LYR` set title, composer and lyricist; any other key gives notice 1.
-pub fn read_reference(line: &[u8], number: u32, offset: u32, tally: Tally, out: &mut [u8]) -> Tally
-    requires { offset + length line.now < 2 ^ 27 }
-    ensures told { (cells : List ℕ) (parts : List Part) → told (Ok result) cells parts out.new ≡ landed (goes (read_reference number offset line.now (state_of cells parts tally))) out.old tally.at }
+pub fn read_reference(line: TextLine, tally: Tally, out: &mut [u8]) -> Tally
+    ensures told { (cells : List ℕ) (parts : List Part) → told (Ok result) cells parts out.new ≡ landed (goes (read_reference line.entry.number line.entry.offset line.entry.bytes.now (state_of cells parts tally))) out.old tally.at }
     ensures same { Same tally result }
 {
-    let r = reference::reference_of(interpretation::tail(line, 3));
-    let from = offset + 3;
+    let r = reference::reference_of(interpretation::tail(line.bytes, 3));
+    let from = line.offset + 3;
     let value = sheet::span_of(from + r.value_span.at as u32, r.value_span.len as u32);
     let key = r.key;
     match key {
@@ -52,7 +52,7 @@ pub fn read_reference(line: &[u8], number: u32, offset: u32, tally: Tally, out: 
             let notice = Notice {
                 number: u8::from(Code::UnsupportedReference),
                 column: 0,
-                line: number,
+                line: line.number,
                 value,
                 key,
             };
@@ -68,83 +68,50 @@ fn all_exclusive(line: &[u8]) -> bool
     line.split(|b| *b == b'\t').all(lines::is_exclusive)
 }
 
-// A column of the header: its line, or none outside kern, and how many parts there are then.
-#[derive(Clone, Copy, Debug)]
-struct Column {
-    spine: Option<Line>,
-    parts: usize,
-}
-
-// The header's table of active spines, and how many columns and parts it has.
+// The header's table of active spines, and how many parts it has.
 #[derive(Clone, Copy, Debug)]
 struct Table {
     spines: [Option<Line>; 256],
-    columns: usize,
     parts: usize,
-}
-
-// The column of a token behind p parts.
-fn column_of(token: &[u8], p: usize) -> Column
-    requires { p < 256 }
-    ensures { (spine_of (cell_of result.spine) ∷ [] ≡ header_from p (is_kern token.now ∷ [])) × (result.parts ≡ p + length (fresh_parts p (is_kern token.now ∷ []))) }
-{
-    if lines::is_kern(token) {
-        let line = Line {
-            part: p as u8,
-            voice: 0,
-        };
-        return Column {
-            spine: Some(line),
-            parts: p + 1,
-        };
-    }
-    Column {
-        spine: None,
-        parts: p,
-    }
 }
 
 // The table of the header's tokens.
 fn table_of(line: &[u8]) -> Table
     requires { length (tokens_of line.now) ≤ 256 }
-    ensures { HeaderTable (tokens_of line.now) result.spines result.columns result.parts }
+    ensures { HeaderTable (tokens_of line.now) result.spines result.parts }
 {
     let mut spines = [None; 256];
-    let mut columns = 0;
     let mut parts = 0;
-    let mut from = 0;
-    while from <= line.len() {
-        let end = lines::token_end(line, from);
-        let column = column_of(&line[from..end], parts);
-        spines[columns] = column.spine;
-        parts = column.parts;
-        columns += 1;
-        from = end + 1;
+    for (i, token) in line.split(|b| *b == b'\t').enumerate() {
+        if lines::is_kern(token) {
+            spines[i] = Some(Line {
+                part: parts as u8,
+                voice: 0,
+            });
+            parts += 1;
+        }
     }
-    Table {
-        spines,
-        columns,
-        parts,
-    }
+    Table { spines, parts }
 }
 
 // A row's cells, each looked up in the table.
-fn lay_row(table: &[Option<Line>], columns: usize, row: &mut [u16])
-    requires { (length row.old ≡ 512) × (columns ≤ length table.now) × (length table.now ≡ 256) }
-    ensures { take columns row.new ≡ take columns (cells_of table.now) }
+fn lay_row(table: &[Option<Line>], row: &mut [u16])
+    requires { length row.old ≤ length table.now }
+    ensures { row.new ≡ take (length row.old) (cells_of table.now) }
 {
-    for i in 0..columns {
-        row[i] = spines::cell_at(table, i);
+    for (i, cell) in row.iter_mut().enumerate() {
+        *cell = spines::cell_at(table, i);
     }
 }
 
 // The first row, and how many parts it has.
-pub fn fill_row(line: &[u8], row: &mut [u16]) -> usize
-    requires { (length row.old ≡ 512) × (length (tokens_of line.now) ≤ 256) }
+pub fn fill_row(line: &[u8], row: &mut [u16; 512]) -> usize
+    requires { length (tokens_of line.now) ≤ 256 }
     ensures { (row_of (take (length (tokens_of line.now)) row.new) ≡ header_row (map is_kern (tokens_of line.now))) × ((result ≡ length (fresh_parts 0 (map is_kern (tokens_of line.now)))) × (result ≤ 256)) }
 {
+    let columns = lines::token_count(line);
     let table = table_of(line);
-    lay_row(&table.spines, table.columns, row);
+    lay_row(&table.spines, &mut row[..columns]);
     table.parts
 }
 
@@ -187,58 +154,46 @@ fn notice_other(
 }
 
 // Notice 2 for each of them.
-fn notice_others(line: &[u8], number: u32, offset: u32, tally: Tally, out: &mut [u8]) -> Tally
-    requires { (offset + length line.now < 2 ^ 27) × (length (tokens_of line.now) ≤ 256) }
-    ensures { (Same tally result) × ((cells : List ℕ) (parts : List Part) → told (Ok result) cells parts out.new ≡ landed (goes (notice_others number 1 (placed offset (tokens_of line.now)) (state_of cells parts tally))) out.old tally.at) }
+fn notice_others(line: TextLine, tally: Tally, out: &mut [u8]) -> Tally
+    requires { length (tokens_of line.bytes.now) ≤ 256 }
+    ensures { (Same tally result) × ((cells : List ℕ) (parts : List Part) → told (Ok result) cells parts out.new ≡ landed (goes (notice_others line.entry.number 1 (placed line.entry.offset (tokens_of line.entry.bytes.now)) (state_of cells parts tally))) out.old tally.at) }
 {
     let mut t = tally;
-    let mut from = 0;
-    let mut column: u16 = 1;
-    while from <= line.len() {
-        let end = lines::token_end(line, from);
-        t = notice_other(
-            &line[from..end],
-            number,
-            column,
-            offset + from as u32,
-            t,
-            out,
-        );
-        column += 1;
-        from = end + 1;
+    let mut at = line.offset;
+    for (i, token) in line.bytes.split(|b| *b == b'\t').enumerate() {
+        let column = i as u16 + 1;
+        t = notice_other(token, line.number, column, at, t, out);
+        at += token.len() as u32 + 1;
     }
     t
 }
 
 // The header: questions 3, 4 and 5, in this order; then the first row, its parts, and the notices.
 pub fn read_header(
-    line: &[u8],
-    row: &mut [u16],
+    line: TextLine,
+    row: &mut [u16; 512],
     parts: &mut [Part; 256],
     tally: Tally,
-    number: u32,
-    offset: u32,
     out: &mut [u8],
 ) -> Result<Tally, Refusal>
-    requires { (length row.old ≡ 512) × (offset + length line.now < 2 ^ 27) }
-    ensures told { (cells : List ℕ) → told_row result row.new parts.new out.new ≡ landed (read_header number offset line.now (state_of cells parts.old tally)) out.old tally.at }
+    ensures told { (cells : List ℕ) → told_row result row.new parts.new out.new ≡ landed (read_header line.entry.number line.entry.offset line.entry.bytes.now (state_of cells parts.old tally)) out.old tally.at }
     ensures few { Few result }
 {
-    let exclusive = all_exclusive(line);
-    let count = lines::token_count(line);
+    let exclusive = all_exclusive(line.bytes);
+    let count = lines::token_count(line.bytes);
     let other = !exclusive;
     if other {
-        return Err(Refusal::NotExclusive { line: number });
+        return Err(Refusal::NotExclusive { line: line.number });
     }
     if 256 < count {
         return Err(Refusal::ManyColumns {
-            line: number,
+            line: line.number,
             columns: count,
         });
     }
-    let kerns = fill_row(line, row);
+    let kerns = fill_row(line.bytes, row);
     if kerns == 0 {
-        return Err(Refusal::NoKern { line: number });
+        return Err(Refusal::NoKern { line: line.number });
     }
     fresh_parts(&mut parts[..kerns]);
     let begun = Tally {
@@ -246,6 +201,6 @@ pub fn read_header(
         parts: kerns,
         ..tally
     };
-    let told = notice_others(line, number, offset, begun, out);
+    let told = notice_others(line, begun, out);
     Ok(told)
 }

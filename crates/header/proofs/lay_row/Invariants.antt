@@ -3,4 +3,4 @@ use Rattle.header.proofs.ColumnLaws.{Laying}
 use Rattle.header.proofs.lay_row.Given as goal
 
 abbrev pub invariant-loop-i : goal.invariant-loop-i
-invariant-loop-i l = Laying l.table l.columns l.row l.i
+invariant-loop-i l = Laying l.table l.row l.i

@@ -1,39 +1,32 @@
 -- The notices of the tokens left, laid from here, are all of them, laid from the start.
-use borrow.Author.Rules.{rules}
-use native.Mathlib.Omega.{arith}
-use Rattle.header.proofs.NoticeLaws.{noticing_first, noticing_room, token_short, noticing_turn, noticing_past}
-use Rattle.lines.proofs.PieceLaws.{end_low}
+use Rattle.std.proofs.Common.{◌∙◌, sym, subst, ℕ, ◌+◌, length, length-append, rules, tests, arith}
+use Rattle.std.proofs.lemmas.Iterator.Consumers.{YieldsList-from_enumerate, YieldsList-turn, YieldsList-end}
+use Rattle.std.proofs.lemmas.List.FromFn.{length-enumerate_from}
+use Rattle.lines.specs.Tokens.{tokens_of}
+use Rattle.lines.proofs.ChainLaws.{YieldsList-from_tokens}
+use Rattle.header.proofs.ColumnLaws.{token_turn}
+use Rattle.header.proofs.NoticeLaws.{Noticing, noticing_first, noticing_room, noticing_turn, noticing_past}
 use Rattle.header.proofs.notice_others.Goals as goal
 
-pub loop-from-init : goal.loop-from-init
-loop-from-init c = noticing_first
+pub loop-i-init : goal.loop-i-init
+loop-i-init c = noticing_first c.args.line.bytes.now c.args.line.number c.args.line.offset c.args.tally c.args.out.now
 
-pub slice_bounds-notice_other-count : goal.slice_bounds-notice_other-count
-slice_bounds-notice_other-count c = let e = end_low _ _ _ c.loop-from-test.true c.token_end-end.ensures in omega arith
-
-pub slice_bounds-notice_other-start : goal.slice_bounds-notice_other-start
-slice_bounds-notice_other-start c = let e = end_low _ _ _ c.loop-from-test.true c.token_end-end.ensures in search rules
-
-pub slice_bounds-notice_other-end : goal.slice_bounds-notice_other-end
-slice_bounds-notice_other-end c = let e = end_low _ _ _ c.loop-from-test.true c.token_end-end.ensures in search rules
-
-pub notice_other-t-requires : goal.notice_other-t-requires
-notice_other-t-requires c = token_short c.loop-from.invariant c.loop-from-test.true c.token_end-end.ensures c.requires.0
+pub overflow_cast-column : goal.overflow_cast-column
+overflow_cast-column c = let t = token_turn (tokens_of c.args.line.bytes.now) (YieldsList-turn (YieldsList-from_enumerate (YieldsList-from_tokens _ c.args.line.bytes.now (cc) (cc) (cc) (λ x b q k. search (rules, tests))) (cc)) c.loop-i.yielded _ c.loop-i.yielded_by _ _ (c.in-Some.i, c.in-Some.token) c.in-Some.is c.next.ensures.steps) in omega (arith, t.0, t.1.0, c.requires)
 
 pub overflow_add-column : goal.overflow_add-column
-overflow_add-column c = let r = noticing_room c.loop-from.invariant c.loop-from-test.true c.token_end-end.ensures c.requires.1 in omega arith
+overflow_add-column c = let t = token_turn (tokens_of c.args.line.bytes.now) (YieldsList-turn (YieldsList-from_enumerate (YieldsList-from_tokens _ c.args.line.bytes.now (cc) (cc) (cc) (λ x b q k. search (rules, tests))) (cc)) c.loop-i.yielded _ c.loop-i.yielded_by _ _ (c.in-Some.i, c.in-Some.token) c.in-Some.is c.next.ensures.steps) in omega (arith, t.0, t.1.0, c.requires)
 
-pub overflow_add-from : goal.overflow_add-from
-overflow_add-from c = let e = end_low _ _ _ c.loop-from-test.true c.token_end-end.ensures in omega arith
+pub notice_other-t-requires : goal.notice_other-t-requires
+notice_other-t-requires c = let t = token_turn (tokens_of c.args.line.bytes.now) (YieldsList-turn (YieldsList-from_enumerate (YieldsList-from_tokens _ c.args.line.bytes.now (cc) (cc) (cc) (λ x b q k. search (rules, tests))) (cc)) c.loop-i.yielded _ c.loop-i.yielded_by _ _ (c.in-Some.i, c.in-Some.token) c.in-Some.is c.next.ensures.steps) in
+    omega (arith, noticing_room c.loop-i.invariant t.0 c.in-Some.token.now t.1.1, c.args.line.short)
 
-pub loop-from-smaller : goal.loop-from-smaller
-loop-from-smaller c = let e = end_low _ _ _ c.loop-from-test.true c.token_end-end.ensures in omega arith
-
-pub loop-from-preserved : goal.loop-from-preserved
-loop-from-preserved c = noticing_turn c.loop-from.invariant c.loop-from-test.true c.token_end-end.ensures c.notice_other-t.auto.out c.notice_other-t.ensures
-
-pub shape_of-out : goal.shape_of-out
-shape_of-out c = c.loop-from.invariant.kept
+pub loop-i-preserved : goal.loop-i-preserved
+loop-i-preserved c = let t = token_turn (tokens_of c.args.line.bytes.now) (YieldsList-turn (YieldsList-from_enumerate (YieldsList-from_tokens _ c.args.line.bytes.now (cc) (cc) (cc) (λ x b q k. search (rules, tests))) (cc)) c.loop-i.yielded _ c.loop-i.yielded_by _ _ (c.in-Some.i, c.in-Some.token) c.in-Some.is c.next.ensures.steps) in
+    subst (λ (n : ℕ). Noticing c.args.line.bytes.now c.args.line.number c.args.line.offset c.args.tally c.args.out.now c.notice_other-t.result c.notice_other-t.new.out (c.loop-i.at + (length c.in-Some.token.now + 1)) n)
+    (sym (length-append c.loop-i.yielded _))
+    (noticing_turn c.loop-i.invariant t.0 c.in-Some.token.now t.1.1 c.notice_other-t.auto.out (rw t.1.0 at c.notice_other-t.ensures))
 
 pub returns : goal.returns
-returns c = noticing_past c.loop-from.invariant c.loop-from-test.false
+returns c = let all = YieldsList-end (YieldsList-from_enumerate (YieldsList-from_tokens _ c.args.line.bytes.now (cc) (cc) (cc) (λ x b q k. search (rules, tests))) (cc)) c.loop-i.yielded _ c.loop-i.yielded_by _ _ c.in-None.is c.next.ensures.steps in
+    noticing_past c.loop-i.invariant (all.1 ∙ length-enumerate_from 0 (tokens_of c.args.line.bytes.now))

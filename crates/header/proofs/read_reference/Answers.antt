@@ -8,31 +8,31 @@ use Rattle.header.proofs.HeaderLaws.{value_low, key_low, title_told, composer_to
 use Rattle.header.proofs.read_reference.Goals as goal
 
 pub overflow_cast-r : goal.overflow_cast-r
-overflow_cast-r c = let v = value_low c.args.line.now _ c.reference_of-r.result c.args.offset c.tail.ensures c.reference_of-r.ensures c.requires in omega arith
+overflow_cast-r c = let v = value_low c.args.line.bytes.now _ c.reference_of-r.result c.args.line.offset c.tail.ensures c.reference_of-r.ensures c.args.line.short in omega arith
 
 pub overflow_add-from-2 : goal.overflow_add-from-2
-overflow_add-from-2 c = let v = value_low c.args.line.now _ c.reference_of-r.result c.args.offset c.tail.ensures c.reference_of-r.ensures c.requires in omega arith
+overflow_add-from-2 c = let v = value_low c.args.line.bytes.now _ c.reference_of-r.result c.args.line.offset c.tail.ensures c.reference_of-r.ensures c.args.line.short in omega arith
 
 pub overflow_cast-r-2 : goal.overflow_cast-r-2
-overflow_cast-r-2 c = let v = value_low c.args.line.now _ c.reference_of-r.result c.args.offset c.tail.ensures c.reference_of-r.ensures c.requires in omega arith
+overflow_cast-r-2 c = let v = value_low c.args.line.bytes.now _ c.reference_of-r.result c.args.line.offset c.tail.ensures c.reference_of-r.ensures c.args.line.short in omega arith
 
 pub overflow_cast-r-in-Other : goal.overflow_cast-r-in-Other
-overflow_cast-r-in-Other c = let v = key_low c.args.line.now _ c.reference_of-r.result c.args.offset c.tail.ensures c.reference_of-r.ensures c.requires in omega arith
+overflow_cast-r-in-Other c = let v = key_low c.args.line.bytes.now _ c.reference_of-r.result c.args.line.offset c.tail.ensures c.reference_of-r.ensures c.args.line.short in omega arith
 
 pub overflow_add-from-in-Other : goal.overflow_add-from-in-Other
-overflow_add-from-in-Other c = let v = key_low c.args.line.now _ c.reference_of-r.result c.args.offset c.tail.ensures c.reference_of-r.ensures c.requires in omega arith
+overflow_add-from-in-Other c = let v = key_low c.args.line.bytes.now _ c.reference_of-r.result c.args.line.offset c.tail.ensures c.reference_of-r.ensures c.args.line.short in omega arith
 
 pub overflow_cast-r-in-Other-2 : goal.overflow_cast-r-in-Other-2
-overflow_cast-r-in-Other-2 c = let v = key_low c.args.line.now _ c.reference_of-r.result c.args.offset c.tail.ensures c.reference_of-r.ensures c.requires in omega arith
+overflow_cast-r-in-Other-2 c = let v = key_low c.args.line.bytes.now _ c.reference_of-r.result c.args.line.offset c.tail.ensures c.reference_of-r.ensures c.args.line.short in omega arith
 
 pub returns-in-Title : goal.returns-in-Title
-returns-in-Title c = record { told = λ cells parts. title_told c.args.line.now _ c.reference_of-r.result c.args.number c.args.offset c.args.tally c.tail.ensures c.reference_of-r.ensures c.span_of-value.result c.span_of-value.ensures cells parts c.args.out.now c.in-Title.is; same = record { active = refl; parts = refl; bars = refl } }
+returns-in-Title c = record { told = λ cells parts. title_told c.args.line.bytes.now _ c.reference_of-r.result c.args.line.number c.args.line.offset c.args.tally c.tail.ensures c.reference_of-r.ensures c.span_of-value.result c.span_of-value.ensures cells parts c.args.out.now c.in-Title.is; same = record { active = refl; parts = refl; bars = refl } }
 
 pub returns-in-Composer : goal.returns-in-Composer
-returns-in-Composer c = record { told = λ cells parts. composer_told c.args.line.now _ c.reference_of-r.result c.args.number c.args.offset c.args.tally c.tail.ensures c.reference_of-r.ensures c.span_of-value.result c.span_of-value.ensures cells parts c.args.out.now c.in-Composer.is; same = record { active = refl; parts = refl; bars = refl } }
+returns-in-Composer c = record { told = λ cells parts. composer_told c.args.line.bytes.now _ c.reference_of-r.result c.args.line.number c.args.line.offset c.args.tally c.tail.ensures c.reference_of-r.ensures c.span_of-value.result c.span_of-value.ensures cells parts c.args.out.now c.in-Composer.is; same = record { active = refl; parts = refl; bars = refl } }
 
 pub returns-in-Lyricist : goal.returns-in-Lyricist
-returns-in-Lyricist c = record { told = λ cells parts. lyricist_told c.args.line.now _ c.reference_of-r.result c.args.number c.args.offset c.args.tally c.tail.ensures c.reference_of-r.ensures c.span_of-value.result c.span_of-value.ensures cells parts c.args.out.now c.in-Lyricist.is; same = record { active = refl; parts = refl; bars = refl } }
+returns-in-Lyricist c = record { told = λ cells parts. lyricist_told c.args.line.bytes.now _ c.reference_of-r.result c.args.line.number c.args.line.offset c.args.tally c.tail.ensures c.reference_of-r.ensures c.span_of-value.result c.span_of-value.ensures cells parts c.args.out.now c.in-Lyricist.is; same = record { active = refl; parts = refl; bars = refl } }
 
 pub returns-in-Other : goal.returns-in-Other
-returns-in-Other c = record { told = λ cells parts. other_key_told c.args.line.now _ c.reference_of-r.result c.args.number c.args.offset c.args.tally c.tail.ensures c.reference_of-r.ensures c.span_of-value.result c.span_of-value.ensures cells parts c.args.out.now c.span_of-key.result c.span_of-key.ensures c.in-Other.is _ _ (rw c.from.ensures at c.keep.ensures); same = subst (Same c.args.tally) (sym c.keep.ensures.1) (kept_same c.args.tally _ []) }
+returns-in-Other c = record { told = λ cells parts. other_key_told c.args.line.bytes.now _ c.reference_of-r.result c.args.line.number c.args.line.offset c.args.tally c.tail.ensures c.reference_of-r.ensures c.span_of-value.result c.span_of-value.ensures cells parts c.args.out.now c.span_of-key.result c.span_of-key.ensures c.in-Other.is _ _ (rw c.from.ensures at c.keep.ensures); same = subst (Same c.args.tally) (sym c.keep.ensures.1) (kept_same c.args.tally _ []) }

@@ -1,43 +1,34 @@
 -- The spines written, and the columns of the tokens left, make the first row.
-use mathlib.Core.Path.{refl}
-use borrow.Author.Rules.{rules}
-use native.Mathlib.Omega.{arith}
-use Rattle.header.proofs.ColumnLaws.{filling_first, filling_room, filling_turn, filling_past}
-use Rattle.lines.proofs.PieceLaws.{end_low}
+use Rattle.std.proofs.Common.{◌∙◌, sym, subst, ℕ, ◌+◌, set, Some, length-append, rules, tests, arith}
+use Rattle.std.proofs.lemmas.Iterator.Consumers.{YieldsList-from_enumerate, YieldsList-turn, YieldsList-end}
+use Rattle.std.proofs.lemmas.List.FromFn.{length-enumerate_from}
+use Rattle.lines.specs.Tokens.{tokens_of}
+use Rattle.lines.proofs.ChainLaws.{YieldsList-from_tokens}
+use Rattle.header.proofs.ColumnLaws.{Filling, token_turn, filling_first, filling_kern, filling_other, filling_past}
 use Rattle.header.proofs.table_of.Goals as goal
 
-pub loop-from-init : goal.loop-from-init
-loop-from-init c = filling_first refl
+pub loop-i-init : goal.loop-i-init
+loop-i-init c = filling_first (tokens_of c.args.line.now)
 
-pub slice_bounds-column_of-count : goal.slice_bounds-column_of-count
-slice_bounds-column_of-count c = let e = end_low _ _ _ c.loop-from-test.true c.token_end-end.ensures in omega arith
+pub overflow_cast-spines : goal.overflow_cast-spines
+overflow_cast-spines c = let t = token_turn (tokens_of c.args.line.now) (YieldsList-turn (YieldsList-from_enumerate (YieldsList-from_tokens _ c.args.line.now (cc) (cc) (cc) (λ x b q k. search (rules, tests))) (cc)) c.loop-i.yielded _ c.loop-i.yielded_by _ _ (c.in-Some.i, c.in-Some.token) c.in-Some.is c.next.ensures.steps) in omega (arith, t.0, c.requires, c.loop-i.invariant.low)
 
-pub slice_bounds-column_of-start : goal.slice_bounds-column_of-start
-slice_bounds-column_of-start c = let e = end_low _ _ _ c.loop-from-test.true c.token_end-end.ensures in search rules
+pub offset_bounds-spines-i : goal.offset_bounds-spines-i
+offset_bounds-spines-i c = let t = token_turn (tokens_of c.args.line.now) (YieldsList-turn (YieldsList-from_enumerate (YieldsList-from_tokens _ c.args.line.now (cc) (cc) (cc) (λ x b q k. search (rules, tests))) (cc)) c.loop-i.yielded _ c.loop-i.yielded_by _ _ (c.in-Some.i, c.in-Some.token) c.in-Some.is c.next.ensures.steps) in omega (arith, t.0, t.1.0, c.requires)
 
-pub slice_bounds-column_of-end : goal.slice_bounds-column_of-end
-slice_bounds-column_of-end c = let e = end_low _ _ _ c.loop-from-test.true c.token_end-end.ensures in search rules
+pub bounds-spines-i : goal.bounds-spines-i
+bounds-spines-i c = let t = token_turn (tokens_of c.args.line.now) (YieldsList-turn (YieldsList-from_enumerate (YieldsList-from_tokens _ c.args.line.now (cc) (cc) (cc) (λ x b q k. search (rules, tests))) (cc)) c.loop-i.yielded _ c.loop-i.yielded_by _ _ (c.in-Some.i, c.in-Some.token) c.in-Some.is c.next.ensures.steps) in omega (arith, t.0, t.1.0, c.requires)
 
-pub column_of-column-requires : goal.column_of-column-requires
-column_of-column-requires c = let r = filling_room c.loop-from.invariant c.requires c.loop-from-test.true c.token_end-end.ensures in omega (arith, c.loop-from.invariant.low)
+pub loop-i-preserved-then-is_kern : goal.loop-i-preserved-then-is_kern
+loop-i-preserved-then-is_kern c = let t = token_turn (tokens_of c.args.line.now) (YieldsList-turn (YieldsList-from_enumerate (YieldsList-from_tokens _ c.args.line.now (cc) (cc) (cc) (λ x b q k. search (rules, tests))) (cc)) c.loop-i.yielded _ c.loop-i.yielded_by _ _ (c.in-Some.i, c.in-Some.token) c.in-Some.is c.next.ensures.steps) in
+    subst (λ (n : ℕ). Filling (tokens_of c.args.line.now) (set c.loop-i.spines c.in-Some.i (Some (record { part = c.loop-i.parts; voice = 0 }))) n (c.loop-i.parts + 1)) (sym (length-append c.loop-i.yielded _))
+    (rw t.1.0 (filling_kern c.loop-i.invariant c.requires t.0 c.in-Some.token.now t.1.1 (sym c.is_kern.ensures ∙ c.if-is_kern.true)))
 
-pub offset_bounds-spines-columns : goal.offset_bounds-spines-columns
-offset_bounds-spines-columns c = let r = filling_room c.loop-from.invariant c.requires c.loop-from-test.true c.token_end-end.ensures in omega arith
-
-pub bounds-spines-columns : goal.bounds-spines-columns
-bounds-spines-columns c = let r = filling_room c.loop-from.invariant c.requires c.loop-from-test.true c.token_end-end.ensures in search rules
-
-pub overflow_add-columns : goal.overflow_add-columns
-overflow_add-columns c = let r = filling_room c.loop-from.invariant c.requires c.loop-from-test.true c.token_end-end.ensures in omega arith
-
-pub overflow_add-from : goal.overflow_add-from
-overflow_add-from c = let e = end_low _ _ _ c.loop-from-test.true c.token_end-end.ensures in omega arith
-
-pub loop-from-smaller : goal.loop-from-smaller
-loop-from-smaller c = let e = end_low _ _ _ c.loop-from-test.true c.token_end-end.ensures in omega arith
-
-pub loop-from-preserved : goal.loop-from-preserved
-loop-from-preserved c = filling_turn c.loop-from.invariant c.requires c.loop-from-test.true c.token_end-end.ensures _ c.column_of-column.ensures
+pub loop-i-preserved : goal.loop-i-preserved
+loop-i-preserved c = let t = token_turn (tokens_of c.args.line.now) (YieldsList-turn (YieldsList-from_enumerate (YieldsList-from_tokens _ c.args.line.now (cc) (cc) (cc) (λ x b q k. search (rules, tests))) (cc)) c.loop-i.yielded _ c.loop-i.yielded_by _ _ (c.in-Some.i, c.in-Some.token) c.in-Some.is c.next.ensures.steps) in
+    subst (λ (n : ℕ). Filling (tokens_of c.args.line.now) c.loop-i.spines n c.loop-i.parts) (sym (length-append c.loop-i.yielded _))
+    (filling_other c.loop-i.invariant c.requires t.0 c.in-Some.token.now t.1.1 (sym c.is_kern.ensures ∙ c.if-is_kern.false))
 
 pub returns : goal.returns
-returns c = filling_past c.loop-from.invariant c.loop-from-test.false
+returns c = let all = YieldsList-end (YieldsList-from_enumerate (YieldsList-from_tokens _ c.args.line.now (cc) (cc) (cc) (λ x b q k. search (rules, tests))) (cc)) c.loop-i.yielded _ c.loop-i.yielded_by _ _ c.in-None.is c.next.ensures.steps in
+    filling_past c.loop-i.invariant (all.1 ∙ length-enumerate_from 0 (tokens_of c.args.line.now))

@@ -1,11 +1,8 @@
 -- The spines written, and the columns of the tokens left, make the first row.
 use lib.ListN.{length}
-use Prim.Native.Nat.{◌+◌, ◌-◌}
+use Rattle.lines.specs.Tokens.{tokens_of}
 use Rattle.header.proofs.ColumnLaws.{Filling}
 use Rattle.header.proofs.table_of.Given as goal
 
-abbrev pub invariant-loop-from : goal.invariant-loop-from
-invariant-loop-from l = Filling l.line l.spines l.from l.columns l.parts
-
-abbrev pub decreases-loop-from : goal.decreases-loop-from
-decreases-loop-from l = length l.line + 1 - l.from
+abbrev pub invariant-loop-i : goal.invariant-loop-i
+invariant-loop-i l = Filling (tokens_of l.line) l.spines (length l.yielded) l.parts
