@@ -69,6 +69,16 @@ impl<'a> TextLine<'a> {
     }
 }
 
+// A token of a line: its bytes, its line and column from 1, and the offset at which it begins.
+#[derive(Clone, Copy, Debug)]
+pub struct TextToken<'a> {
+    pub bytes: &'a [u8],
+    pub line: u32,
+    pub column: u16,
+    pub offset: u32,
+    pub ghost short: { offset + length bytes.now < 2 ^ 27 },
+}
+
 // Where a line begins, and how many lines stand before it.
 #[derive(Clone, Copy, PartialEq, Eq, Debug)]
 pub struct Place {

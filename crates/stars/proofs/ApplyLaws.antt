@@ -1,11 +1,10 @@
 -- One column: what an interpretation comes to in the state that the code keeps.
 use Rattle.std.specs.Prelude.{Ok}
 use mathlib.Core.Path.{◌≡◌, refl, sym, ap, ap₂, ◌∙◌, subst}
-use Prim.Native.Nat.{ℕ, ◌+◌, ◌-◌, ◌*◌, ◌/◌, ◌%◌, ◌≤◌, ◌<◌}
-use native.Mathlib.Omega.{arith}
-use mathlib.Core.Bool.{Bool, cond}
+use Prim.Native.Nat.{ℕ, ◌+◌, ◌-◌, ◌≤◌, ◌<◌}
+use mathlib.Core.Bool.{Bool, false, cond}
+use mathlib.Core.Logic.{◌⊎◌, inl, inr}
 use mathlib.Core.List.{List, []}
-use lib.Dec.{eqb}
 use lib.ListN.{length, take, set, get_or}
 use lib.Seq.{set-get_or, take-set-lt}
 use Rattle.state.proofs.CountLaws.{same}
@@ -17,14 +16,12 @@ use Rattle.interpretation.specs.declared.Unsupported.{Unsupported}
 use Rattle.interpretation.specs.Unsupported.{notice_number, Says}
 use Rattle.std.proofs.Common.{Ok, Err}
 use Rattle.paths.specs.declared.PathToken.{PathToken}
-use Rattle.paths.specs.declared.PathToken.TheVariants.{Exchange}
+use Rattle.paths.specs.declared.PathToken.TheVariants.{Split, Join, Exchange, End, Other}
 use Rattle.paths.specs.Token.{path_token}
 use Rattle.paths.specs.declared.Spine.{Spine}
-use Rattle.paths.specs.declared.Spine.TheVariants.{Line}
+use Rattle.paths.specs.declared.Spine.TheVariants.{Line, Branch, Outside}
 use Rattle.sheet.specs.Record.{span_of}
 use Rattle.sheet.specs.declared.Span.{Span}
-use Rattle.spines.specs.Cells.{spine_of}
-use Rattle.spines.proofs.CellLaws.{cell_outside, cell_line, cell_branch}
 use Rattle.reading.specs.State.{State, Result, goes, fresh_part, part_at, with_parts}
 use Rattle.reading.specs.declared.Part.{Part}
 use Rattle.reading.specs.Notices.{Token, quiet, notify}
@@ -37,7 +34,7 @@ use Rattle.writing.specs.Kept.{notice_of, kept_records, after_kept}
 use Rattle.writing.proofs.KeptLaws.{notify_told, kept_same}
 use Rattle.tandem.specs.Change.{changed}
 use borrow.Author.Tests.{eq-eqb, ne_eqb}
-use Rattle.stars.specs.Columns.{token_of, with_first, tempoed, Comes, Fit}
+use Rattle.stars.specs.Columns.{token_of, with_first, tempoed, Comes}
 
 -- ---- a piece of the reading that says the same; one that does nothing; a notice
 
@@ -139,28 +136,28 @@ module _ (bytes : List ℕ) (p k j at : ℕ) (d : Part) (parts : List Part) (tal
         held = noticed.held;
       }
 
--- ---- by the column's cell
+-- ---- by the column's spine
 
-module _ (cell k j : ℕ) (tok : Token) where
-  pub in_outside : {parts : List Part} {out : List ℕ} {t : Tally} → cell < 8 → Comes (interpret (spine_of cell) k j tok) parts out t parts out t
-  in_outside h = comes_quiet (λ (st : State). ap (λ (s : Spine). interpret s k j tok st) (cell_outside cell (omega arith)))
-
-  pub in_branch : {parts : List Part} {out : List ℕ} {t : Tally} → 8 ≤ cell → 3 < cell % 8 → Comes (interpret (spine_of cell) k j tok) parts out t parts out t
-  in_branch h v = comes_quiet (λ (st : State). ap (λ (s : Spine). interpret s k j tok st) (cell_branch cell (cell / 8 - 1) (omega arith) (omega arith)))
-
-  pub in_line : {parts : List Part} {out : List ℕ} {parts' : List Part} {out' : List ℕ} {t r : Tally} → 8 ≤ cell → cell % 8 ≤ 3
-      → Comes (interpret (Line (cell / 8 - 1) 0) k j tok) parts out t parts' out' r → Comes (interpret (spine_of cell) k j tok) parts out t parts' out' r
-  in_line h v = comes_as (λ (st : State). ap (λ (s : Spine). interpret s k j tok st) (cell_line cell (cell / 8 - 1) (omega arith) (omega arith)))
-
--- the part of a line's cell
-pub in_part : {cell : ℕ} {token : List ℕ} {t : Tally} {at : ℕ} → Fit cell token t at → 8 ≤ cell → cell % 8 ≤ 3 → cell / 8 - 1 < t.parts
-in_part {cell} fit h v = fit.within (cell / 8 - 1) (cell % 8) (cell_line cell (cell / 8 - 1) (omega arith) (omega arith))
+pub no_line : {s : Spine} (k j : ℕ) (tok : Token) → ((x : ℕ) × (s ≡ Branch x)) ⊎ (s ≡ Outside) → (st : State) → interpret s k j tok st ≡ quiet st
+no_line k j tok (inl h) st = ap (λ (x : Spine). interpret x k j tok st) h.1
+no_line k j tok (inr e) st = ap (λ (x : Spine). interpret x k j tok st) e
 
 -- ---- by the token
 
 module _ (bytes : List ℕ) (b : Bool) (s : Spine) (k j : ℕ) (tok : Token) {m : PathToken} (p : m ≡ path_token bytes) where
   pub by_token : {n : PathToken} → m ≡ n → (st : State) → column_by (path_token bytes) b s k j tok st ≡ column_by n b s k j tok st
   by_token q st = ap (λ (x : PathToken). column_by x b s k j tok st) (sym p ∙ q)
+
+  -- `*^`, `*v` and `*-` set nothing
+  pub no_path : (m ≡ Split) ⊎ ((m ≡ Join) ⊎ (m ≡ End)) → (st : State) → column_by (path_token bytes) b s k j tok st ≡ quiet st
+  no_path (inl e) st = by_token e st
+  no_path (inr (inl e)) st = by_token e st
+  no_path (inr (inr e)) st = by_token e st
+
+  -- `*x` that pairs with no other, and any token that is no path token
+  pub no_pair : (m ≡ Exchange) ⊎ (m ≡ Other) → b ≡ false → (st : State) → column_by (path_token bytes) b s k j tok st ≡ interpret s k j tok st
+  no_pair (inl e) q st = by_token e st ∙ ap (λ (x : Bool). column_by Exchange x s k j tok st) q
+  no_pair (inr e) q st = by_token e st
 
   pub by_pair : {c : Bool} → m ≡ Exchange → b ≡ c → (st : State) → column_by (path_token bytes) b s k j tok st ≡ column_by Exchange c s k j tok st
   by_pair q e st = by_token q st ∙ ap (λ (x : Bool). column_by Exchange x s k j tok st) e

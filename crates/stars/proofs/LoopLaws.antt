@@ -1,7 +1,7 @@
 -- The loop over the columns of a star record.
 use Rattle.std.specs.Prelude.{Ok}
 use mathlib.Core.Path.{◌≡◌, refl, sym, ap, ap₂, ◌∙◌}
-use Prim.Native.Nat.{ℕ, zero, suc, ◌+◌, ◌-◌, ◌≤◌, ◌<◌, ◌^◌}
+use Prim.Native.Nat.{ℕ, zero, suc, ◌+◌, ◌-◌, ◌≤◌, ◌<◌}
 use native.Mathlib.Nat.{add-zero}
 use native.Mathlib.Numerals.{add-one}
 use native.Mathlib.Omega.{arith}
@@ -141,16 +141,11 @@ loop_first {text} {cells} {number} {offset} {parts} {out} {tally} = record {
 
 module _ {text cells : List ℕ} {number offset : ℕ} {parts₀ : List Part} {out₀ : List ℕ} {tally : Tally} {parts : List Part} {out : List ℕ} {t : Tally} {left : Bool} {from i : ℕ}
     (inv : Loop text cells number offset parts₀ out₀ tally parts out t left from i) where
-  pub loop_fit : {e : ℕ} → Ready cells tally → offset + length text < 2 ^ 27 → i < length cells → Piece 9 text from e
-      → Fit (get_or cells i 0) (take (e - from) (drop from text)) t (offset + from)
-  loop_fit {e} ready small low piece =
-      let n : length (drop from text) ≡ length text - from = length-drop from text in
-      let l : length (take (e - from) (drop from text)) ≡ e - from = length-take-le (e - from) (drop from text) (omega (arith, piece.low, piece.high)) in
-      record {
-        parts_few = omega (arith, inv.held.parts, ready.parts_few);
-        within = λ (p v : ℕ) q. omega (arith, inv.held.parts, ready.within i p v (cell_at cells i low ∙ q));
-        small = omega (arith, piece.low, piece.high);
-      }
+  pub loop_fit : {s : Spine} → Ready cells tally → i < length cells → s ≡ spine_of (get_or cells i 0) → Fit s t
+  loop_fit ready low e = record {
+    parts_few = omega (arith, inv.held.parts, ready.parts_few);
+    within = λ (p v : ℕ) q. omega (arith, inv.held.parts, ready.within i p v (cell_at cells i low ∙ sym e ∙ q));
+  }
 
   module _ {e : ℕ} {right both : Bool} (low : i < length cells) (piece : Piece 9 text from e)
       (rights : right ≡ (is_exchange (token_at (path_tokens (length cells - i) (pieces 9 from text)) 0) && is_exchange (token_at (path_tokens (length cells - i) (pieces 9 from text)) 1) && not left))

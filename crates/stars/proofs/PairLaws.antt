@@ -3,29 +3,24 @@ use mathlib.Core.Path.{◌≡◌, refl, sym, ap, ◌∙◌}
 use Prim.Native.Nat.{ℕ, zero, suc, ◌+◌, ◌-◌, ◌<◌}
 use native.Mathlib.Omega.{arith}
 use mathlib.Core.Bool.{Bool, true, false, ◌&&◌, not, and-true}
-use mathlib.Core.List.{List, [], ◌∷◌}
-use lib.ListN.{length, take, drop}
+use mathlib.Core.List.{List, ◌∷◌}
+use lib.ListN.{take, drop}
 use Rattle.slices.specs.Split.{pieces}
-use Rattle.slices.proofs.SplitLaws.{no_piece}
 use Rattle.lines.proofs.PieceLaws.{Piece}
 use Rattle.paths.specs.declared.PathToken.{PathToken}
+use Rattle.paths.specs.declared.PathToken.TheVariants.{Other}
 use Rattle.paths.specs.Token.{path_token, is_exchange}
 use Rattle.paths.specs.Trace.{token_at, exchanges_right, exchanges_left}
-use Rattle.spines.specs.Tokens.{path_tokens}
+use Rattle.spines.specs.Tokens.{path_tokens, at_hand}
 
 -- ---- the token at hand
 
-pub none_at : {n : ℕ} (ts : List (List ℕ)) → n ≡ 0 → false ≡ is_exchange (token_at (path_tokens n ts) 0)
-unfolding path_tokens
-none_at ts z = sym (rw z)
-
-pub past_at : (n : ℕ) (text : List ℕ) {from : ℕ} → length text < from → false ≡ is_exchange (token_at (path_tokens n (pieces 9 from text)) 0)
-unfolding path_tokens
-past_at n text {from} h = sym (ap (λ (ts : List (List ℕ)). is_exchange (token_at (path_tokens n ts) 0)) (no_piece 9 from text h) ∙ go n)
-  where
-    go : (m : ℕ) → is_exchange (token_at (path_tokens m []) 0) ≡ false
-    go zero = refl
-    go (suc m) = refl
+-- the token ahead
+pub ahead_is : (n : ℕ) (ts us : List (List ℕ)) {t : PathToken} {r : Bool} → path_tokens n ts ≡ at_hand n t us → (n ≡ 0 → t ≡ Other) → r ≡ is_exchange t
+    → r ≡ is_exchange (token_at (path_tokens n ts) 0)
+unfolding path_tokens at_hand
+ahead_is zero ts us e z q = q ∙ ap is_exchange (z refl)
+ahead_is (suc n) ts us e z q = q ∙ sym (ap (λ (ps : List PathToken). is_exchange (token_at ps 0)) e)
 
 -- the tokens from one on
 pub tokens_at : {n from e : ℕ} {text : List ℕ} → 0 < n → Piece 9 text from e

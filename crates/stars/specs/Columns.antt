@@ -1,13 +1,14 @@
 -- A star record's tokens for as many columns as there are spines, and what the code makes of a column.
-use Rattle.std.specs.Prelude.{◌≡◌, ℕ, ◌+◌, ◌-◌, ◌≤◌, ◌<◌, ◌^◌, cond, List, ◌++◌, map, eqb, length, take, replicate, Ok}
+use Rattle.std.specs.Prelude.{◌≡◌, ℕ, ◌-◌, ◌≤◌, ◌<◌, cond, List, ◌++◌, map, eqb, length, take, replicate, Ok}
 use Rattle.slices.specs.Ascii.{ascii}
 use Rattle.state.specs.Counts.{Same}
 use Rattle.lines.specs.Tokens.{tokens_of}
+use Rattle.paths.specs.declared.Spine.{Spine}
 use Rattle.paths.specs.declared.Spine.TheVariants.{Line}
 use Rattle.paths.specs.Token.{path_token}
 use Rattle.interpretation.specs.declared.Interpretation.{Interpretation}
 use Rattle.interpretation.specs.declared.Interpretation.TheVariants.{Tempo}
-use Rattle.spines.specs.Cells.{spine_of, row_of}
+use Rattle.spines.specs.Cells.{row_of}
 use Rattle.reading.specs.State.{State, Result, goes}
 use Rattle.reading.specs.declared.Part.{Part}
 use Rattle.reading.specs.Notices.{Token, placed}
@@ -52,8 +53,7 @@ pub record Comes (f : State → Result) (parts : List Part) (out : List ℕ) (t 
   pub same : (cells : List ℕ) → told (Ok r) cells parts' out' ≡ landed (goes (f (state_of cells parts t))) out t.at
   pub held : Same t r
 
--- what keeps the numbers of a column small
-pub record Fit (cell : ℕ) (token : List ℕ) (t : Tally) (offset : ℕ) : Type 0 where
+-- the parts of a spine are among the text's
+pub record Fit (s : Spine) (t : Tally) : Type 0 where
   pub parts_few : t.parts ≤ 256
-  pub within : (p v : ℕ) → spine_of cell ≡ Line p v → p < t.parts
-  pub small : offset + length token < 2 ^ 27
+  pub within : (p v : ℕ) → s ≡ Line p v → p < t.parts

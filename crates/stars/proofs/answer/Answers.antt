@@ -1,6 +1,6 @@
 -- The answers by the row's step.
 use Rattle.std.specs.Prelude.{Ok}
-use mathlib.Core.Path.{refl, ap}
+use mathlib.Core.Path.{ap}
 use Rattle.stars.proofs.StarLaws.{answer_as}
 use Rattle.stars.proofs.answer.Goals as goal
 
