@@ -1,23 +1,22 @@
--- The token that decides, cell by cell and token by token.
+-- The token that decides: that of the first kern spine, or the first.
 use mathlib.Core.Path.{◌≡◌, refl, sym, ap, ap₂, ◌∙◌}
-use Prim.Native.Nat.{ℕ, zero, suc, ◌+◌, ◌-◌, ◌/◌, ◌%◌, ◌≤◌, ◌<◌}
+use Prim.Native.Nat.{ℕ, zero, suc, ◌+◌, ◌-◌, ◌<◌}
 use native.Mathlib.Nat.{not-suc-le-zero}
 use native.Mathlib.Omega.{arith}
 use mathlib.Core.Bool.{Bool, true, false, cond}
 use mathlib.Core.List.{List, [], ◌∷◌, ◌++◌, head_d}
-use lib.Dec.{ltb}
-use lib.ListN.{length, take, drop, get_or, replicate, drop_of_length-le}
-use borrow.Author.Tests.{ne_eqb}
-use Rattle.slices.specs.Split.{split, pieces, piece_at}
-use Rattle.slices.proofs.SplitLaws.{first_piece, no_piece, all_pieces}
+use lib.ListN.{length, take, replicate}
+use Rattle.std.proofs.Common.{Option, Some, None}
+use Rattle.std.specs.List.{find, zip}
+use Rattle.slices.specs.Split.{split, piece_at}
+use Rattle.slices.proofs.SplitLaws.{first_piece, all_pieces}
 use Rattle.lines.specs.Lines.{piece_end}
 use Rattle.lines.specs.Tokens.{tokens_of}
 use Rattle.lines.proofs.PieceLaws.{Piece, piece_at_lem}
 use Rattle.paths.specs.declared.Spine.{Spine}
-use Rattle.paths.specs.declared.Spine.TheVariants.{Line, Branch}
 use Rattle.repair.specs.Repair.{first_of}
 use Rattle.spines.specs.Cells.{spine_of, row_of}
-use Rattle.spines.proofs.CellLaws.{cell_outside, row_drop, row_none, row_length}
+use Rattle.spines.proofs.CellLaws.{row_length}
 use Rattle.reading.specs.Notices.{placed}
 use Rattle.reading.specs.Bars.{is_kern_spine, deciding, deciding_or}
 use Rattle.bars.specs.Bars.{filled_bars, deciding_in, deciding_of}
@@ -67,42 +66,29 @@ deciding_line at cells s =
     ∙ deciding_filled at (row_of cells) _ _
     ∙ ap (deciding_of (row_of cells)) (sym (first_piece 9 s))
 
--- ---- the loop
-kern_low : (c : ℕ) → c < 8 → is_kern_spine (spine_of c) ≡ false
-kern_low c h = let z : c / 8 ≡ 0 = omega arith in rw (cell_outside c z)
+-- ---- the first column whose spine is kern
+abbrev pub in_kern : ℕ × List ℕ → Bool
+in_kern column = is_kern_spine (spine_of column.0)
 
-kern_high : (c : ℕ) → 8 ≤ c → is_kern_spine (spine_of c) ≡ true
-unfolding spine_of
-kern_high c h = rw (ne_eqb (c / 8) 0 (λ e. omega arith)) (go (ltb (c % 8) 4))
-  where
-    go : (b : Bool) → is_kern_spine (cond b (Line (c / 8 - 1) (c % 8)) (Branch (c / 8 - 1))) ≡ true
-    go true = refl
-    go false = refl
+-- the token that was found, or another
+abbrev pub found_or : List ℕ → Option (ℕ × List ℕ) → List ℕ
+found_or o None = o
+found_or o (Some column) = column.1
 
-in_more : (o : List ℕ) (s : Spine) (row : List Spine) (t : List ℕ) (ts : List (List ℕ))
-    → deciding_in o (s ∷ row) (t ∷ ts) ≡ cond (is_kern_spine s) t (deciding_in o row ts)
-unfolding deciding_in
-in_more o s row t ts = refl
+found_more : (o : List ℕ) (b : Bool) (column : ℕ × List ℕ) (found : Option (ℕ × List ℕ)) {rest : List ℕ} → found_or o found ≡ rest → found_or o (cond b (Some column) found) ≡ cond b column.1 rest
+found_more o true column found e = refl
+found_more o false column found e = e
 
-in_none : (o : List ℕ) (row : List Spine) → deciding_in o row [] ≡ o
-unfolding deciding_in
-in_none o [] = refl
-in_none o (s ∷ row) = refl
-
-in_end : (o : List ℕ) (ts : List (List ℕ)) → deciding_in o [] ts ≡ o
-unfolding deciding_in
-in_end o ts = refl
+found_in : (o : List ℕ) (cells : List ℕ) (ts : List (List ℕ)) → found_or o (find in_kern (zip cells ts)) ≡ deciding_in o (row_of cells) ts
+unfolding deciding_in row_of
+found_in o [] ts = refl
+found_in o (c ∷ cells) [] = refl
+found_in o (c ∷ cells) (t ∷ ts) = found_more o (is_kern_spine (spine_of c)) (c, t) _ (found_in o cells ts)
 
 of_some : (row : List Spine) (ts : List (List ℕ)) → 0 < length row → deciding_of row ts ≡ deciding_in (first_of ts) row ts
 unfolding deciding_of
 of_some [] ts h = absurd (not-suc-le-zero h)
 of_some (s ∷ row) ts h = refl
-
--- the first token of the line, and what the cells from i on and the tokens from `from` on decide
-pub record Deciding (s cells : List ℕ) (first from i : ℕ) : Type 0 where
-  pub within : i ≤ length cells
-  pub begins : piece_at s 0 first ≡ first_of (tokens_of s)
-  pub here : deciding_of (row_of cells) (tokens_of s) ≡ deciding_in (first_of (tokens_of s)) (row_of (drop i cells)) (pieces 9 from s)
 
 first_token : (s : List ℕ) (first : ℕ) → first ≡ piece_end 9 s 0 → piece_at s 0 first ≡ first_of (tokens_of s)
 unfolding head_d
@@ -111,48 +97,20 @@ first_token s first e =
     let z : first - 0 ≡ first = omega arith in
     sym (ap first_of (sym (all_pieces 9 s) ∙ p.here) ∙ ap (λ (k : ℕ). take k s) z)
 
-pub deciding_first : {s cells : List ℕ} {first : ℕ} → (length cells ≡ 0 → ⊥) → first ≡ piece_end 9 s 0 → Deciding s cells first 0 0
-deciding_first {s} {cells} {first} n e = record {
-  within = omega arith;
-  begins = first_token s first e;
-  here = of_some (row_of cells) (tokens_of s) (omega (arith, row_length cells)) ∙ ap (deciding_in (first_of (tokens_of s)) (row_of cells)) (sym (all_pieces 9 s));
-}
-
 pub deciding_empty : (s cells : List ℕ) → length cells ≡ 0 → piece_at s 0 0 ≡ deciding_of (row_of cells) (tokens_of s)
 unfolding deciding_of row_of
 deciding_empty s [] e = refl
 deciding_empty s (c ∷ cells) e = absurd (not-suc-le-zero {n = 0} (omega arith))
 
-module _ {s cells : List ℕ} {first from i : ℕ} (d : Deciding s cells first from i) where
-  pub line_past : length s < from → piece_at s 0 first ≡ deciding_of (row_of cells) (tokens_of s)
-  line_past h =
-      d.begins
-      ∙ sym (d.here ∙ ap (deciding_in (first_of (tokens_of s)) (row_of (drop i cells))) (no_piece 9 from s h) ∙ in_none (first_of (tokens_of s)) (row_of (drop i cells)))
+module _ (s cells : List ℕ) {first : ℕ} (some : length cells ≡ 0 → ⊥) (e : first ≡ piece_end 9 s 0) (found : Option (ℕ × List ℕ)) (is : found ≡ find in_kern (zip cells (tokens_of s))) where
+  deciding_by : found_or (piece_at s 0 first) found ≡ deciding_of (row_of cells) (tokens_of s)
+  deciding_by =
+      ap₂ found_or (first_token s first e) is
+      ∙ found_in (first_of (tokens_of s)) cells (tokens_of s)
+      ∙ sym (of_some (row_of cells) (tokens_of s) (omega (arith, row_length cells)))
 
-  pub row_past : length cells ≤ i → piece_at s 0 first ≡ deciding_of (row_of cells) (tokens_of s)
-  row_past h =
-      d.begins
-      ∙ sym (d.here
-      ∙ ap (λ (r : List Spine). deciding_in (first_of (tokens_of s)) r (pieces 9 from s)) (ap row_of (drop_of_length-le cells {i = i} h) ∙ row_none)
-      ∙ in_end (first_of (tokens_of s)) (pieces 9 from s))
+  pub deciding_found : (column : ℕ × List ℕ) → found ≡ Some column → column.1 ≡ deciding_of (row_of cells) (tokens_of s)
+  deciding_found column q = ap (found_or (piece_at s 0 first)) (sym q) ∙ deciding_by
 
-  deciding_here : {end : ℕ} → i < length cells → from ≤ length s → end ≡ piece_end 9 s from
-      → deciding_of (row_of cells) (tokens_of s)
-      ≡ cond (is_kern_spine (spine_of (get_or cells i 0))) (piece_at s from (end - from)) (deciding_in (first_of (tokens_of s)) (row_of (drop (i + 1) cells)) (pieces 9 (end + 1) s))
-  deciding_here {end} h g e =
-      let p : Piece 9 s from end = piece_at_lem g e in
-      d.here
-      ∙ ap₂ (deciding_in (first_of (tokens_of s))) (row_drop cells i h) p.here
-      ∙ in_more (first_of (tokens_of s)) (spine_of (get_or cells i 0)) (row_of (drop (i + 1) cells)) (piece_at s from (end - from)) (pieces 9 (end + 1) s)
-
-  pub deciding_found : {end : ℕ} → i < length cells → from ≤ length s → end ≡ piece_end 9 s from → 8 ≤ get_or cells i 0
-      → piece_at s from (end - from) ≡ deciding_of (row_of cells) (tokens_of s)
-  deciding_found {end} h g e k = sym (deciding_here h g e ∙ rw (kern_high (get_or cells i 0) k))
-
-  pub deciding_turn : {end : ℕ} → i < length cells → from ≤ length s → end ≡ piece_end 9 s from → get_or cells i 0 < 8
-      → Deciding s cells first (end + 1) (i + 1)
-  deciding_turn {end} h g e k = record {
-    within = omega arith;
-    begins = d.begins;
-    here = deciding_here h g e ∙ rw (kern_low (get_or cells i 0) k);
-  }
+  pub deciding_none : found ≡ None → piece_at s 0 first ≡ deciding_of (row_of cells) (tokens_of s)
+  deciding_none q = ap (found_or (piece_at s 0 first)) (sym q) ∙ deciding_by

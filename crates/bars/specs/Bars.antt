@@ -1,5 +1,5 @@
 -- A barline record's tokens as repaired, the one that decides, and closings of parts.
-use Rattle.std.specs.Prelude.{ℕ, ◌+◌, ◌-◌, false, cond, List, [], ◌∷◌, ◌++◌, map, length, take, replicate}
+use Rattle.std.specs.Prelude.{ℕ, ◌+◌, ◌-◌, cond, List, [], ◌∷◌, ◌++◌, map, length, take, replicate}
 use Rattle.paths.specs.declared.Spine.{Spine}
 use Rattle.repair.specs.Repair.{first_of}
 use Rattle.sheet.specs.Record.{Record, BAR}

@@ -3,17 +3,18 @@
 // Barline records, the end of a text, and the closing of bars.
 ghost use Rattle.std.specs.Prelude.{◌≡◌, List, [], ◌∷◌, ◌++◌, map, reverse, ℕ, ◌≤◌, length};
 ghost use Rattle.lines.specs.Tokens.{tokens_of};
-ghost use Rattle.spines.specs.Cells.{row_of};
+ghost use Rattle.spines.specs.Cells.{spine_of, row_of};
 ghost use Rattle.sheet.specs.Record.{PART};
 ghost use Rattle.reading.specs.State.{goes};
 ghost use Rattle.reading.specs.Notices.{placed};
-ghost use Rattle.reading.specs.Bars.{any_noted, closed_bar, closed_part, left_anew, close_with, read_bar};
+ghost use Rattle.reading.specs.Bars.{is_kern_spine, any_noted, closed_bar, closed_part, left_anew, close_with, read_bar};
 ghost use Rattle.reading.specs.Text.{part_record, last_closing, last_records};
 ghost use Rattle.state.specs.Lay.{laid, behind};
 ghost use Rattle.state.specs.View.{state_of, landed, told};
 ghost use Rattle.state.specs.Ready.{Ready};
 ghost use Rattle.bars.specs.Bars.{filled_bars, deciding_of, bar_record, last_parts, last_bars, last_end};
 
+use paths::Spine;
 use reading::Part;
 use sheet::{Bar, End};
 use state::Tally;
@@ -53,6 +54,14 @@ fn keep_left(parts: &mut [Part], left: u8)
     }
 }
 
+// Whether a cell's spine is kern.
+fn is_kern(cell: u16) -> bool
+    ensures { result ≡ is_kern_spine (spine_of cell) }
+{
+    let spine = spines::spine_of(cell);
+    spine != Spine::Outside
+}
+
 // The token that decides a barline record.
 fn deciding<'a>(line: &'a [u8], row: &[u16]) -> &'a [u8]
     ensures { result.now ≡ deciding_of (row_of row.now) (tokens_of line.now) }
@@ -61,20 +70,14 @@ fn deciding<'a>(line: &'a [u8], row: &[u16]) -> &'a [u8]
         return &line[..0];
     }
     let first = lines::token_end(line, 0);
-    let mut from = 0;
-    for cell in row {
-        if line.len() < from {
-            break;
-        }
-        let end = lines::token_end(line, from);
-        let token = &line[from..end];
-        let kern = 8 <= *cell;
-        if kern {
-            return token;
-        }
-        from = end + 1;
+    let kern = row
+        .iter()
+        .zip(line.split(|b| *b == b'\t'))
+        .find(|column| is_kern(*column.0));
+    match kern {
+        Some((_, token)) => token,
+        None => &line[..first],
     }
-    &line[..first]
 }
 
 // Closes a part's bar, and writes its BAR; the place behind it.

@@ -1,9 +1,6 @@
 -- The parts before the index are closed, and their BARs are laid.
-use Rattle.std.proofs.Common.{List, [], ◌∷◌, ◌++◌, map, length, get_or, take, refl, sym, ap, ◌∙◌, add-one, arith}
-use Rattle.std.proofs.Math.Seq.{take-suc}
-use Rattle.reading.specs.declared.Part.{Part}
+use Rattle.std.proofs.Common.{refl}
 use Rattle.reading.specs.Bars.{closed_part}
-use Rattle.state.proofs.LayLaws.{laid_length}
 use Rattle.bars.specs.Bars.{bar_record}
 use Rattle.bars.proofs.LoopLaws.{marched_turn, marched_past, laid_none, close_turn, close_past}
 use Rattle.bars.proofs.close.Goals as goal
