@@ -107,7 +107,9 @@ fn lay_row(table: &[Option<Line>], row: &mut [u16])
 // The first row, and how many parts it has.
 pub fn fill_row(line: &[u8], row: &mut [u16; 512]) -> usize
     requires { length (tokens_of line.now) ≤ 256 }
-    ensures { (row_of (take (length (tokens_of line.now)) row.new) ≡ header_row (map is_kern (tokens_of line.now))) × ((result ≡ length (fresh_parts 0 (map is_kern (tokens_of line.now)))) × (result ≤ 256)) }
+    ensures row { row_of (take (length (tokens_of line.now)) row.new) ≡ header_row (map is_kern (tokens_of line.now)) }
+    ensures parts { (result ≡ length (fresh_parts 0 (map is_kern (tokens_of line.now)))) × (result ≤ 256) }
+    ensures room { length row.new ≡ 512 }
 {
     let columns = lines::token_count(line);
     let table = table_of(line);
@@ -178,6 +180,7 @@ pub fn read_header(
 ) -> Result<Tally, Refusal>
     ensures told { (cells : List ℕ) → told_row result row.new parts.new out.new ≡ landed (read_header line.entry.number line.entry.offset line.entry.bytes.now (state_of cells parts.old tally)) out.old tally.at }
     ensures few { Few result }
+    ensures room { length row.new ≡ 512 }
 {
     let exclusive = all_exclusive(line.bytes);
     let count = lines::token_count(line.bytes);

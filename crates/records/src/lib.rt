@@ -127,17 +127,7 @@ fn read_even(
     ensures few { Few result }
 {
     match line.kind {
-        Kind::Star => stars::read_star(
-            line.bytes,
-            &mut rows.row,
-            &mut rows.next,
-            &mut rows.masks,
-            parts,
-            tally,
-            line.number,
-            line.offset,
-            out,
-        ),
+        Kind::Star => stars::read_star(line, rows, parts, tally, out),
         Kind::Bar => Ok(bar_of(line, rows, parts, tally, out)),
         Kind::Data => data_of(line, rows, parts, tally, out),
         Kind::Empty | Kind::Reference | Kind::Comment => Ok(tally),
@@ -199,15 +189,7 @@ fn on_record(
     if begun {
         return read_record(line, rows, parts, tally, out);
     }
-    let read = header::read_header(
-        line.bytes,
-        &mut rows.row,
-        parts,
-        tally,
-        line.number,
-        line.offset,
-        out,
-    )?;
+    let read = header::read_header(line, &mut rows.row, parts, tally, out)?;
     Ok(Flow::Goes(read))
 }
 
@@ -228,7 +210,7 @@ pub fn read_line(
         Kind::Empty | Kind::Comment => Ok(Flow::Goes(tally)),
         Kind::Reference => {
             let active = tally.active;
-            let set = header::read_reference(line.bytes, line.number, line.offset, tally, out);
+            let set = header::read_reference(line, tally, out);
             Ok(Flow::Goes(Tally { active, ..set }))
         }
         Kind::Star | Kind::Bar | Kind::Data => on_record(begun, line, rows, parts, tally, out),

@@ -51,8 +51,7 @@ fn row_behind(
 }
 
 // The header's row.
-fn header_row(line: &[u8], row: &mut [u16]) -> usize
-    requires { length row.old ≡ 512 }
+fn header_row(line: &[u8], row: &mut [u16; 512]) -> usize
     ensures { (row_of (take result row.new) ≡ headed_by line.now) × (result ≤ 256) }
 {
     let n = lines::token_count(line);

@@ -4,7 +4,7 @@ use Rattle.records.proofs.KindLaws.{by_none, by_star, by_bar, by_data}
 use Rattle.records.proofs.read_even.Goals as goal
 
 pub read_star-requires : goal.read_star-requires
-read_star-requires c = (omega (arith, c.requires.under.long, c.requires.under.ready.cells_long), (c.requires.under.ready, c.args.line.short))
+read_star-requires c = (omega (arith, c.requires.under.long, c.requires.under.ready.cells_long), c.requires.under.ready)
 
 pub returns-in-Empty-clause-told : goal.returns-in-Empty-clause-told
 returns-in-Empty-clause-told c = by_none c.args.parts.now c.requires.under c.args.line.bytes.now c.requires.even c.args.out.now c.args.line.number c.args.line.offset c.args.line.kind c.in-Empty.is
