@@ -30,6 +30,7 @@ pub struct Reference {
 }
 
 // Whether a code point is white space.
+#[tactic(auto, using(crate::proofs::WhiteLaws::white_key, crate::proofs::WhiteLaws::white_run, crate::proofs::WhiteLaws::white_not))]
 pub fn white(c: u32) -> bool
     ensures { result ≡ white c }
 {
@@ -44,7 +45,7 @@ fn width(s: &[u8]) -> usize
 }
 
 // A character of a text: where its bytes end, and whether it is white.
-#[derive(Clone, Copy)]
+#[derive(Clone, Copy, PartialEq, Eq, Debug)]
 struct Turn {
     next: usize,
     blank: bool,
@@ -80,7 +81,7 @@ pub fn leading_white(s: &[u8]) -> usize
     ensures { (result ≡ leading_white s.now) × (result ≤ length s.now) }
 {
     let mut i = 0;
-    // Stays: no plainer, a step is a character of one to four bytes.
+    // Stays: a step is one byte where that is ink or a blank of ASCII, and only else a character; an iterator over characters would decode each.
     while i < s.len() {
         let b = s[i];
         if ink(b) {
@@ -105,7 +106,7 @@ fn last_end(s: &[u8]) -> usize
 {
     let mut end = 0;
     let mut i = 0;
-    // Stays: no plainer, a step is a character of one to four bytes.
+    // Stays: as in `leading_white`, a step is one byte where that is ink, and only else a character.
     while i < s.len() {
         if ink(s[i]) {
             i += 1;
@@ -150,6 +151,7 @@ fn trim(s: &[u8], from: usize, to: usize) -> Span
 }
 
 // What a trimmed key names.
+#[tactic(auto, using(crate::proofs::KeyLaws::key_title, crate::proofs::KeyLaws::key_composer, crate::proofs::KeyLaws::key_lyricist, crate::proofs::KeyLaws::key_other))]
 pub fn key_of(k: &[u8]) -> Key
     ensures { result ≡ key_of k.now }
 {

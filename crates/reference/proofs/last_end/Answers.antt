@@ -1,29 +1,13 @@
 -- `last_end`: the text ends where what stays from i on ends, or at `end` where nothing stays there.
-use native.Mathlib.Omega.{arith}
 use borrow.Author.Tests.{not-true, not-false}
-use Rattle.reference.proofs.LoopLaws.{end_start, ink_turn, end_turn, end_turn_white, end_past}
+use Rattle.reference.proofs.LoopLaws.{ink_turn, end_turn, end_turn_white, end_past}
 use Rattle.reference.proofs.last_end.Goals as goal
-
-pub loop-i-init : goal.loop-i-init
-loop-i-init c = end_start
-
-pub ink-requires : goal.ink-requires
-ink-requires c = tt
 
 pub loop-i-preserved-then-ink : goal.loop-i-preserved-then-ink
 loop-i-preserved-then-ink c = ink_turn c.loop-i-test.true (c.ink.ensures c.if-ink.true).1 (c.ink.ensures c.if-ink.true).0 c.loop-i.invariant
 
-pub character-c-requires : goal.character-c-requires
-character-c-requires c = c.loop-i-test.true
-
-pub loop-i-smaller-then-not-c : goal.loop-i-smaller-then-not-c
-loop-i-smaller-then-not-c c = omega (arith, c.character-c.ensures.less, c.loop-i-test.true)
-
 pub loop-i-preserved-then-not-c : goal.loop-i-preserved-then-not-c
 loop-i-preserved-then-not-c c = end_turn c.character-c.ensures c.loop-i.invariant (not-true _ c.if-not-c.true)
-
-pub loop-i-smaller : goal.loop-i-smaller
-loop-i-smaller c = omega (arith, c.character-c.ensures.less, c.loop-i-test.true)
 
 pub loop-i-preserved : goal.loop-i-preserved
 loop-i-preserved c = end_turn_white c.character-c.ensures c.loop-i.invariant (not-false _ c.if-not-c.false)

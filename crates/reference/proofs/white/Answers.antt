@@ -1,24 +1,8 @@
 -- `white`: the keys of the match, its three ranges, and what lies between them.
 use native.Mathlib.Omega.{arith}
-use Rattle.std.proofs.Common.{rules}
 use Rattle.reference.specs.Trim.{white}
-use Rattle.reference.proofs.WhiteLaws.{white_key, white_run, white_not}
+use Rattle.reference.proofs.WhiteLaws.{white_run}
 use Rattle.reference.proofs.white.Goals as goal
-
-pub returns-in_default : goal.returns-in_default
-returns-in_default c = white_not _ (search rules) (omega arith) (omega arith) (omega arith)
-
-pub returns-in_default-2 : goal.returns-in_default-2
-returns-in_default-2 c = white_not _ (search rules) (omega arith) (omega arith) (omega arith)
-
-pub returns-in_default-3 : goal.returns-in_default-3
-returns-in_default-3 c = white_not _ (search rules) (omega arith) (omega arith) (omega arith)
-
-pub returns-in_default-4 : goal.returns-in_default-4
-returns-in_default-4 c = white_not _ (search rules) (omega arith) (omega arith) (omega arith)
-
-pub returns-in-9-to-13 : goal.returns-in-9-to-13
-returns-in-9-to-13 c = white_key _ (search rules)
 
 pub returns-in-9-to-13-2 : goal.returns-in-9-to-13-2
 unfolding white
