@@ -30,7 +30,7 @@ use Rattle.paths.proofs.VoiceLaws.{Sound}
 use Rattle.holders.specs.Voice.{free_voice}
 use Rattle.holders.specs.Holders.{those_from, is_from, is_branch_of, parent_of, from_one, row_in, voice_of, with_branches, carries_on, line_columns, branch_columns, holder, holders, times, Five}
 use Rattle.holders.specs.Walk.{put, carries, is_split, is_of, entry, lines_from, branches_from, walked, kern_column}
-use Rattle.holders.specs.declared.Holder.{Holder}
+use Rattle.holders.specs.declared.list.Holder.{Holder}
 use Rattle.holders.proofs.CarryLaws.{carried, forked, carry_total, carried_less, carries_at, carries_is}
 use Rattle.holders.proofs.FiveLaws.{Good, good_few, good_more, free_is, five}
 use Rattle.holders.proofs.ForkLaws.{forks, those_gathered, gathered_forks}

@@ -15,7 +15,7 @@ use Rattle.paths.proofs.Counts.{bit, same, same_yes, same_le, four_at, low_bit}
 use Rattle.paths.proofs.VoiceLaws.{LowestIs, lowest_is}
 use Rattle.holders.specs.Voice.{has, or_four, free_voice}
 use Rattle.holders.specs.Holders.{with_branches, times, Five}
-use Rattle.holders.specs.declared.Holder.{Holder}
+use Rattle.holders.specs.declared.list.Holder.{Holder}
 
 has_times : (v : ℕ) (hs : List Holder) → has v hs ≡ leb 1 (times v hs)
 unfolding has times

@@ -8,7 +8,7 @@ use Rattle.paths.specs.declared.Spine.TheVariants.{Line, Branch, Outside}
 use Rattle.paths.specs.Text.{Reading, reached, ended, refused, read_to}
 use Rattle.paths.specs.Trace.{Origin, from, branch_of, nowhere, origin_in, columns, count, is_part, part, trace}
 use Rattle.holders.specs.Voice.{free_voice}
-use Rattle.holders.specs.declared.Holder.{Holder}
+use Rattle.holders.specs.declared.list.Holder.{Holder}
 
 -- the numbers that pass a test, rising: of the n numbers from k on
 unfoldable pub those_from : (ℕ → Bool) → ℕ → ℕ → List ℕ

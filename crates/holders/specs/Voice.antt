@@ -2,7 +2,7 @@
 use Rattle.std.specs.Prelude.{Bool, false, ◌||◌, List, [], ◌∷◌, ℕ, eqb}
 use Rattle.std.proofs.Math.Option.{Option, none, some}
 use Rattle.paths.specs.Voices.{lowest}
-use Rattle.holders.specs.declared.Holder.{Holder}
+use Rattle.holders.specs.declared.list.Holder.{Holder}
 
 -- whether one of them has the voice
 unfoldable pub has : ℕ → List Holder → Bool

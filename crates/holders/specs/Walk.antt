@@ -1,5 +1,5 @@
 -- What fills a staff as the code goes: over the record's tokens and the row's spines once for the lines, once for the branches.
-use Rattle.std.specs.Prelude.{Bool, true, false, cond, ◌&&◌, not, List, [], ◌∷◌, ◌++◌, ◌≡◌, ℕ, zero, suc, ◌+◌, ◌≤◌, eqb, ltb, length, take}
+use Rattle.std.specs.Prelude.{Bool, true, false, cond, ◌&&◌, not, List, [], ◌∷◌, ◌++◌, ℕ, zero, suc, ◌+◌, eqb, ltb, length, take, Option, Some, None}
 use Rattle.paths.specs.declared.PathToken.{PathToken}
 use Rattle.paths.specs.declared.PathToken.TheVariants.{Split, Join, Exchange, End, Add, Other}
 use Rattle.paths.specs.declared.Spine.{Spine}
@@ -7,16 +7,12 @@ use Rattle.paths.specs.declared.Spine.TheVariants.{Line, Branch, Outside}
 use Rattle.paths.specs.Token.{is_join}
 use Rattle.holders.specs.Voice.{free_voice}
 use Rattle.holders.specs.Holders.{voice_of}
-use Rattle.holders.specs.declared.Holder.{Holder}
-use Rattle.holders.specs.declared.Holders.{Holders}
+use Rattle.holders.specs.declared.list.Holder.{Holder}
+use Rattle.holders.specs.declared.list.Holders.{Holders}
 
 -- the list that the array and the count say
 abbrev pub listed : Holders → List Holder
 listed hs = take hs.count hs.list
-
-pub record Kept (hs : Holders) : Type 0 where
-  pub few : hs.count ≤ 5
-  pub room : length hs.list ≡ 5
 
 -- one more, where there is room for it
 unfoldable pub put : List Holder → Holder → List Holder
@@ -45,6 +41,12 @@ is_of p (Line q v) = eqb p q
 is_of p (Branch q) = false
 is_of p Outside = false
 
+-- the voice of a line of part p
+abbrev pub line_voice : ℕ → Spine → Option ℕ
+line_voice p (Line q v) = cond (eqb p q) (Some v) None
+line_voice p (Branch q) = None
+line_voice p Outside = None
+
 -- part p, whose header column is c
 module _ (p c : ℕ) where
   abbrev pub entry : ℕ → ℕ → Holder
@@ -69,6 +71,11 @@ module _ (p c : ℕ) where
   -- the lines, then the branches
   unfoldable pub walked : List PathToken → List Spine → List Holder
   walked ts row = branches_from (lines_from [] 0 false ts row) 0 ts row
+
+-- a column from 1, 0 for none
+abbrev pub or_zero : Option ℕ → ℕ
+or_zero None = 0
+or_zero (Some c) = c
 
 -- the column, from 1, of the `**kern` that has q before it, where i columns stand before the first; 0 where there is none
 unfoldable pub kern_column : ℕ → ℕ → List Bool → ℕ

@@ -8,7 +8,7 @@ use lib.ListN.{length, get_or, take, drop}
 use lib.Seq.{take_at, drop_at, take-suc, drop-drop, take_all, length-take-le}
 use borrow.Author.Tests.{le-leb}
 use Rattle.slices.specs.Store.{stored}
-use Rattle.holders.specs.declared.Holder.{Holder}
+use Rattle.holders.specs.declared.list.Holder.{Holder}
 use Rattle.kern_ffi.specs.Answer.{entry_numbers}
 
 numbers_length : (xs : List Holder) → length (entry_numbers xs) ≡ 3 * length xs

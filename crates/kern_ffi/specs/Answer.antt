@@ -1,7 +1,7 @@
 -- The reader's answer as the library gives it.
 use Rattle.std.specs.Prelude.{ℕ, List, [], ◌∷◌, cond, eqb, Option, None, Some}
 use Rattle.sheet.specs.declared.Span.{Span}
-use Rattle.holders.specs.declared.Holder.{Holder}
+use Rattle.holders.specs.declared.list.Holder.{Holder}
 
 -- the number of the refusal, 0 for an acceptance
 abbrev pub number_of : ℕ × ℕ × ℕ → ℕ

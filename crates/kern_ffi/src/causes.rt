@@ -9,7 +9,7 @@ ghost use Rattle.account.specs.Reached.{Question8, Question17};
 ghost use Rattle.demand.specs.Played.{Played};
 ghost use Rattle.kern_ffi.specs.Answer.{number_of, figure_of, three_of, entry_numbers};
 
-use holders::{Holder, Holders};
+use holders::Holder;
 
 // The numbers of an entry: its column, its voice, and the part's header column.
 #[tactic(auto, unfolding(crate::specs::Answer::entry_numbers))]
@@ -53,7 +53,6 @@ pub extern "C" fn kern_read_lines(
     ensures lines { lines.new ≡ stored lines.old (entry_numbers (filling_of text.now)) }
 {
     let explained = staff::read_with_lines(text, out);
-    let Holders { count, list } = explained.lines;
-    put_lines(lines, &list[..count]);
+    put_lines(lines, explained.lines.as_slice());
     crate::put_answer(answer, explained.answer)
 }

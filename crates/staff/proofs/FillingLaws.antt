@@ -7,7 +7,7 @@ use mathlib.Core.Bool.{Bool, true, false, cond, not, false≢true}
 use mathlib.Core.List.{List, [], ◌∷◌, ◌++◌, map}
 use mathlib.Core.Option.{some}
 use lib.Dec.{eqb, leb, ltb}
-use lib.ListN.{length, get_or, take, length-append, length-map}
+use lib.ListN.{length, get_or, take, length-map}
 use lib.Seq.{take_at, get_or_at}
 use borrow.Author.Tests.{eqb-true}
 use Rattle.slices.proofs.TestLaws.{clash}
@@ -30,8 +30,8 @@ use Rattle.repair.proofs.WidthLaws.{even_width}
 use Rattle.spines.specs.Tokens.{record_tokens}
 use Rattle.spines.proofs.RecordLaws.{repaired_tokens, star_record}
 use Rattle.holders.specs.Holders.{holders, Five}
-use Rattle.holders.specs.Walk.{listed, Kept}
-use Rattle.holders.specs.declared.Holders.{Holders}
+use Rattle.holders.specs.Walk.{listed}
+use Rattle.holders.specs.declared.list.Holders.{Holders}
 use Rattle.holders.proofs.AgreeLaws.{walked_is, five_there}
 use Rattle.holders.proofs.OverLaws.{over_four}
 use Rattle.reading.specs.Header.{any_kern, read_header}
@@ -54,7 +54,7 @@ use Rattle.std.specs.Prelude.{Result as Answered, Ok, Err}
 use Rattle.refusal.specs.Numbers.{number_of}
 use Rattle.refusal.specs.declared.Refusal.{Refusal}
 use Rattle.refusal.specs.declared.Refusal.TheVariants.{TooLong, NotUtf8, NotExclusive, ManyColumns, NoKern, Uneven as UnevenText, Mixed as MixedText, StaffFull, ManySpines, ManyNotes, NoHeader, NoNote, ShortBuffer, MixedJoin}
-use Rattle.staff.specs.Row.{row_by, moved_by, headed_by, row_past, row_through, walked_at, Within}
+use Rattle.staff.specs.Row.{row_by, moved_by, headed_by, row_past, row_through, walked_at}
 use Rattle.staff.specs.Filling.{filling_by, filling_of}
 
 -- ---- one line that the reading goes past
@@ -227,7 +227,6 @@ module _ (text : List ℕ) (before : List (List ℕ)) (here : List ℕ) (rest : 
 
 -- "five entries returned with the refusal"
 pub record Filled (text : List ℕ) (k q : ℕ) : Type 0 where
-  pub within : Within text k
   pub same : walked_at text k q ≡ filling_of text
   pub five : Five (filling_of text)
 
@@ -242,7 +241,6 @@ filled text k q e =
     let z : length before + 1 - 1 ≡ length before = omega arith in
     let cut : take (length before) (lines_of text) ≡ before = ap (take (length before)) there.cut ∙ take_at before (o.1 ∷ o.2) (length before) refl in
     record {
-      within = record { short = there.short; some_line = omega arith; inside = omega (arith, ap length there.cut, length-append before (o.1 ∷ o.2)) };
       same = rw (e, at, z, cut) f.0;
       five = rw (e, at, z, cut) f.1;
     }
@@ -269,7 +267,7 @@ Promised text old new r =
 
 abbrev Explains : List ℕ → List ℕ → List ℕ → Answered ℕ Refusal → Holders → Type 0
 Explains text old new r held =
-    Promised text old new r × (((listed held ≡ filling_of text) × Kept held) × ((k q : ℕ) → r ≡ Err (StaffFull k q) → Five (listed held)))
+    Promised text old new r × ((listed held ≡ filling_of text) × ((k q : ℕ) → r ≡ Err (StaffFull k q) → Five (listed held)))
 
 -- question 8 is that of a full staff alone
 eight : (r : Refusal) → number_of r ≡ 8 → (k : ℕ) × ((q : ℕ) × (r ≡ StaffFull k q))
@@ -314,30 +312,27 @@ module _ (text old new : List ℕ) {r : Answered ℕ Refusal} (p : Promised text
   full : {k q : ℕ} → r ≡ Err (StaffFull k q) → Filled text k q
   full {k} {q} is = filled text k q (text_refused text old 8 k q (sym (ap numbers_of is) ∙ p.0) refl)
 
-  pub within_text : {f : Refusal} → r ≡ Err f → (k q : ℕ) → f ≡ StaffFull k q → Within text k
-  within_text is k q e = (full (is ∙ ap Err e)).within
-
   -- a text that isn't refused with 8
   other : ((k q : ℕ) → r ≡ Err (StaffFull k q) → ⊥) → (a : Answered ℕ Refusal) → r ≡ a → (numbers_of a).0 ≡ 8 → ⊥
   other n (Ok m) is e = omega arith
   other n (Err f) is e = let x = eight f e in n x.0 x.1.0 (is ∙ ap Err x.1.1)
 
-  explains_none : {held : Holders} → ((k q : ℕ) → r ≡ Err (StaffFull k q) → ⊥) → (listed held ≡ []) × Kept held → Explains text old new r held
-  explains_none n (w, kept) = (p, ((w ∙ sym (filling_none text (text_other text old (numbers_of r) p.0 (other n r refl))), kept), λ k q x. absurd (n k q x)))
+  explains_none : (held : Holders) → ((k q : ℕ) → r ≡ Err (StaffFull k q) → ⊥) → listed held ≡ [] → Explains text old new r held
+  explains_none held n w = (p, (w ∙ sym (filling_none text (text_other text old (numbers_of r) p.0 (other n r refl))), λ k q x. absurd (n k q x)))
 
-  pub explains_accepted : {n : ℕ} {held : Holders} → r ≡ Ok n → (listed held ≡ []) × Kept held → Explains text old new r held
-  explains_accepted {n} is e = explains_none (λ k q x. clash (let y : Ok n ≡ Err (StaffFull k q) = sym is ∙ x in cc)) e
+  pub explains_accepted : {n : ℕ} (held : Holders) → r ≡ Ok n → listed held ≡ [] → Explains text old new r held
+  explains_accepted {n} held is e = explains_none held (λ k q x. clash (let y : Ok n ≡ Err (StaffFull k q) = sym is ∙ x in cc)) e
 
-  pub explains_refused : {f : Refusal} {held : Holders} → r ≡ Err f → ((k q : ℕ) → f ≡ StaffFull k q → listed held ≡ walked_at text k q)
-      → (((k q : ℕ) → f ≡ StaffFull k q → ⊥) → listed held ≡ []) → Kept held → Explains text old new (Err f) held
-  explains_refused {f} {held} is w n kept = subst (λ (a : Answered ℕ Refusal). Explains text old new a held) is (go (eqb (number_of f) 8) refl)
+  pub explains_refused : {f : Refusal} (held : Holders) → r ≡ Err f → ((k q : ℕ) → f ≡ StaffFull k q → listed held ≡ walked_at text k q)
+      → (((k q : ℕ) → f ≡ StaffFull k q → ⊥) → listed held ≡ []) → Explains text old new (Err f) held
+  explains_refused {f} held is w n = subst (λ (a : Answered ℕ Refusal). Explains text old new a held) is (go (eqb (number_of f) 8) refl)
     where
       go : (b : Bool) → eqb (number_of f) 8 ≡ b → Explains text old new r held
       go true e =
           let x = eight f (eqb-true (number_of f) 8 e) in
           let t : Filled text x.0 x.1.0 = full (is ∙ ap Err x.1.1) in
           let same : listed held ≡ filling_of text = w x.0 x.1.0 x.1.1 ∙ t.same in
-          (p, ((same, kept), λ k q y. rw same t.five))
+          (p, (same, λ k q y. rw same t.five))
       go false e =
           let no : (k q : ℕ) → f ≡ StaffFull k q → ⊥ = λ k q y. false≢true (sym e ∙ ap (λ (g : Refusal). eqb (number_of g) 8) y) in
-          explains_none (λ k q y. no k q (let z : Err f ≡ Err (StaffFull k q) = sym is ∙ y in cc)) (n no, kept)
+          explains_none held (λ k q y. no k q (let z : Err f ≡ Err (StaffFull k q) = sym is ∙ y in cc)) (n no)

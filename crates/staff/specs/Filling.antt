@@ -2,7 +2,7 @@
 use Rattle.std.specs.Prelude.{ℕ, ◌-◌, cond, List, [], eqb, take}
 use Rattle.lines.specs.Lines.{lines_of}
 use Rattle.holders.specs.Holders.{holders}
-use Rattle.holders.specs.declared.Holder.{Holder}
+use Rattle.holders.specs.declared.list.Holder.{Holder}
 use Rattle.reading.specs.Text.{Answer, refusal, accepted, read_text}
 use Rattle.account.specs.Reached.{later_among}
 use Rattle.account.specs.Rows.{header_of, paths_of}

@@ -1,6 +1,5 @@
 -- The row before a line, line by line, of a text in which no question stops the lines before; and what the passes over that line find.
-use Rattle.std.specs.Prelude.{◌≡◌, ℕ, ◌-◌, ◌≤◌, Bool, true, false, cond, ◌||◌, List, [], ◌∷◌, map, ltb, length, take, drop, get_or}
-use Rattle.slices.specs.Split.{pieces}
+use Rattle.std.specs.Prelude.{ℕ, ◌-◌, Bool, true, false, cond, ◌||◌, List, [], ◌∷◌, map, ltb, length, take, get_or}
 use Rattle.lines.specs.Lines.{lines_of, without_crs, kind_of}
 use Rattle.lines.specs.Tokens.{tokens_of, is_kern}
 use Rattle.lines.specs.declared.Kind.{Kind}
@@ -8,10 +7,9 @@ use Rattle.lines.specs.declared.Kind.TheVariants.{Empty, Reference, Comment, Sta
 use Rattle.paths.specs.declared.Spine.{Spine}
 use Rattle.paths.specs.Text.{header_row}
 use Rattle.paths.specs.Voices.{Outcome, next, mixed, voiceless, wide, step_row}
-use Rattle.spines.specs.Cells.{row_of}
 use Rattle.spines.specs.Tokens.{record_tokens}
 use Rattle.holders.specs.Walk.{walked, kern_column}
-use Rattle.holders.specs.declared.Holder.{Holder}
+use Rattle.holders.specs.declared.list.Holder.{Holder}
 use Rattle.reading.specs.Records.{is_record}
 use Rattle.account.specs.Rows.{header_of}
 
@@ -49,16 +47,3 @@ unfoldable pub walked_at : List ℕ → ℕ → ℕ → List Holder
 walked_at text k q =
     let row = row_through false [] (take (k - 1) (lines_of text)) in
     walked q (kern_column 0 q (header_of text)) (record_tokens (length row) (without_crs (get_or (lines_of text) (k - 1) []))) row
-
--- line k is one of a text that isn't too long
-pub record Within (text : List ℕ) (k : ℕ) : Type 0 where
-  pub short : length text ≤ 67108864
-  pub some_line : 1 ≤ k
-  pub inside : k ≤ length (lines_of text)
-
--- the cells that stand before line k, and where it begins
-pub record Reached (text : List ℕ) (k : ℕ) (cells : List ℕ) (active at : ℕ) : Type 0 where
-  pub row : row_of (take active cells) ≡ row_through false [] (take (k - 1) (lines_of text))
-  pub few : active ≤ 256
-  pub rest : pieces 10 at text ≡ drop (k - 1) (lines_of text)
-  pub on : at ≤ length text

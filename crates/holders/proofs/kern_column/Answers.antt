@@ -1,45 +1,28 @@
--- The columns passed, and those of the tokens left, are those of the header.
-use borrow.Author.Rules.{rules}
-use native.Mathlib.Omega.{arith}
-use Rattle.lines.proofs.PieceLaws.{end_low}
-use Rattle.holders.proofs.PassLaws.{counting_first, counting_done, counting_turn, counting_other, counting_past}
+-- Of the tokens that are `**kern`, with their numbers, the one that is asked for.
+use Prim.Native.Nat.{ℕ}
+use mathlib.Core.Path.{ap, ◌∙◌}
+use mathlib.Core.List.{List}
+use Rattle.std.proofs.Common.{rules, Some, None}
+use borrow.Author.Tests.{tests}
+use Rattle.std.proofs.lemmas.Iterator.Consumers.{nth_from_yields_List, YieldsList-from_filter, YieldsList-from_enumerate, YieldsList-at}
+use Rattle.lines.proofs.ChainLaws.{YieldsList-from_tokens}
+use Rattle.lines.specs.Tokens.{tokens_of, is_kern}
+use Rattle.holders.specs.Walk.{or_zero}
+use Rattle.holders.proofs.PassLaws.{kern_found}
 use Rattle.holders.proofs.kern_column.Goals as goal
 
-pub loop-from-init : goal.loop-from-init
-loop-from-init c = counting_first _ _
-
-pub overflow_add-column : goal.overflow_add-column
-overflow_add-column c = omega (arith, c.loop-from.invariant.low, c.loop-from-test.true)
-
-pub slice_bounds-is_kern-count : goal.slice_bounds-is_kern-count
-slice_bounds-is_kern-count c = let e = end_low _ _ _ c.loop-from-test.true c.token_end-end.ensures in omega arith
-
-pub slice_bounds-is_kern-start : goal.slice_bounds-is_kern-start
-slice_bounds-is_kern-start c = let e = end_low _ _ _ c.loop-from-test.true c.token_end-end.ensures in search rules
-
-pub slice_bounds-is_kern-end : goal.slice_bounds-is_kern-end
-slice_bounds-is_kern-end c = let e = end_low _ _ _ c.loop-from-test.true c.token_end-end.ensures in search rules
-
-pub overflow_add-from : goal.overflow_add-from
-overflow_add-from c = let e = end_low _ _ _ c.loop-from-test.true c.token_end-end.ensures in omega arith
-
-pub loop-from-smaller-then-not-is_kern : goal.loop-from-smaller-then-not-is_kern
-loop-from-smaller-then-not-is_kern c = let e = end_low _ _ _ c.loop-from-test.true c.token_end-end.ensures in omega arith
-
-pub loop-from-preserved-then-not-is_kern : goal.loop-from-preserved-then-not-is_kern
-loop-from-preserved-then-not-is_kern c = counting_other c.loop-from.invariant c.loop-from-test.true c.token_end-end.ensures c.is_kern.ensures (c.if-not-is_kern.true)
-
-pub returns-then-here : goal.returns-then-here
-returns-then-here c = counting_done c.loop-from.invariant c.loop-from-test.true c.token_end-end.ensures c.is_kern.ensures (c.if-not-is_kern.false) c.if-here.true
-
-pub overflow_add-from-in-loop-from : goal.overflow_add-from-in-loop-from
-overflow_add-from-in-loop-from c = let e = end_low _ _ _ c.loop-from-test.true c.token_end-end.ensures in omega arith
-
-pub loop-from-smaller : goal.loop-from-smaller
-loop-from-smaller c = let e = end_low _ _ _ c.loop-from-test.true c.token_end-end.ensures in omega arith
-
-pub loop-from-preserved : goal.loop-from-preserved
-loop-from-preserved c = counting_turn c.loop-from.invariant c.loop-from-test.true c.token_end-end.ensures c.is_kern.ensures (c.if-not-is_kern.false) c.if-here.false
+pub returns-in_err-before : goal.returns-in_err-before
+returns-in_err-before c =
+    let n = nth_from_yields_List c.nth.result _ c.args.part c.nth.ensures.ran
+    (YieldsList-from_filter _ (λ (p : ℕ × List ℕ). is_kern p.1)
+    (YieldsList-at c.filter.ensures.source (YieldsList-from_enumerate (YieldsList-at c.enumerate-tokens.ensures.source (YieldsList-from_tokens _ c.args.line.now (cc) (cc) (cc) (λ x b q k. search (rules, tests)))) (cc)))
+    (cc) (λ x b q k. search (rules, tests))) in
+    ap or_zero c.from_residual.ensures ∙ kern_found _ c.args.part (tokens_of c.args.line.now) None c.in_err-before.was n
 
 pub returns : goal.returns
-returns c = counting_past c.loop-from.invariant c.loop-from-test.false
+returns c =
+    let n = nth_from_yields_List c.nth.result _ c.args.part c.nth.ensures.ran
+    (YieldsList-from_filter _ (λ (p : ℕ × List ℕ). is_kern p.1)
+    (YieldsList-at c.filter.ensures.source (YieldsList-from_enumerate (YieldsList-at c.enumerate-tokens.ensures.source (YieldsList-from_tokens _ c.args.line.now (cc) (cc) (cc) (λ x b q k. search (rules, tests)))) (cc)))
+    (cc) (λ x b q k. search (rules, tests))) in
+    kern_found _ c.args.part (tokens_of c.args.line.now) (Some (c.in_ok-before.before, c.in_ok-before.field-0-1)) c.in_ok-before.was n

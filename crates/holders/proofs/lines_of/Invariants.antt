@@ -1,11 +1,7 @@
 -- The lines so far, and those of the tokens left, are those of the whole record.
-use Prim.Native.Nat.{◌-◌}
-use lib.ListN.{length}
+use Rattle.holders.specs.Walk.{listed}
 use Rattle.holders.proofs.PassLaws.{Lining}
 use Rattle.holders.proofs.lines_of.Given as goal
 
 abbrev pub invariant-loop-i : goal.invariant-loop-i
-invariant-loop-i l = Lining l.part l.header l.line l.row l.held l.follows l.from l.i
-
-abbrev pub decreases-loop-i : goal.decreases-loop-i
-decreases-loop-i l = length l.row - l.i
+invariant-loop-i l = Lining l.part l.header l.line l.row (listed l.held) l.follows l.from l.i

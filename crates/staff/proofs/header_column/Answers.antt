@@ -1,29 +1,31 @@
--- The lines passed are no records.
-use native.Mathlib.Omega.{arith}
-use Rattle.reader.proofs.LoopLaws.{inside_of, nearer}
-use Rattle.staff.proofs.WalkLaws.{heading_first, heading_found, heading_turn, heading_past}
+-- The first of the lines that is a record.
+use mathlib.Core.Path.{sym, ap, ◌∙◌}
+use mathlib.Core.List.{List}
+use Prim.Native.Nat.{ℕ}
+use Rattle.std.proofs.Common.{rules, Some, None}
+use borrow.Author.Tests.{tests}
+use Rattle.std.proofs.lemmas.Iterator.{YieldsList-from_map_by}
+use Rattle.std.proofs.lemmas.Iterator.Search.{find_from_yields_List}
+use Rattle.std.proofs.lemmas.Iterator.Consumers.{YieldsList-at}
+use Rattle.lines.specs.Lines.{without_crs, kind_of}
+use Rattle.reading.specs.Records.{is_record}
+use denote.Ref.{Bor}
+use Rattle.std.specs.Option.{option_map}
+use Rattle.holders.specs.Walk.{or_zero, kern_column}
+use Rattle.staff.proofs.WalkLaws.{YieldsList-from_lines, by_none, heads_of}
 use Rattle.staff.proofs.header_column.Goals as goal
 
-pub loop-from-init : goal.loop-from-init
-loop-from-init c = heading_first _
-
-pub next_line-next-requires : goal.next_line-next-requires
-next_line-next-requires c = (c.loop-from-test.true, c.requires)
-
-pub overflow_sub-next : goal.overflow_sub-next
-overflow_sub-next c = omega (arith, c.next_line-next.ensures)
-
-pub line_of-line-requires : goal.line_of-line-requires
-line_of-line-requires c = inside_of c.args.text.now c.loop-from-test.true c.next_line-next.ensures
-
-pub returns-then-begun_after : goal.returns-then-begun_after
-returns-then-begun_after c = heading_found c.loop-from.invariant c.loop-from-test.true c.next_line-next.ensures c.line_of-line.ensures c.line_kind.ensures c.begun_after.ensures _ c.if-begun_after.true c.kern_column.ensures
-
-pub loop-from-smaller : goal.loop-from-smaller
-loop-from-smaller c = nearer c.args.text.now c.loop-from-test.true c.next_line-next.ensures
-
-pub loop-from-preserved : goal.loop-from-preserved
-loop-from-preserved c = heading_turn c.loop-from.invariant c.loop-from-test.true c.next_line-next.ensures c.line_of-line.ensures c.line_kind.ensures c.begun_after.ensures c.if-begun_after.false
+pub returns-in_err-header : goal.returns-in_err-header
+returns-in_err-header c =
+    let f = find_from_yields_List (λ (l : List ℕ). is_record (kind_of l)) _ _ c.find.result c.find.ensures.ran
+    (YieldsList-from_map_by _ (λ r. r.now) without_crs (YieldsList-at c.map-lines.ensures.source (YieldsList-from_lines _ c.args.text.now (cc) (cc) (cc) (λ x b q k. search (rules, tests)))) (cc) (λ x r q k. search (rules, tests)))
+    (λ x b q k. search (rules, tests)) in
+    ap or_zero c.from_residual.ensures ∙ (by_none c.args.part ∙ ap (kern_column 0 c.args.part) (heads_of c.args.text.now {r = None} (sym (ap (option_map (λ (y : Bor (List ℕ)). y.now)) c.in_err-header.was) ∙ f)))
 
 pub returns : goal.returns
-returns c = heading_past c.loop-from.invariant _ c.loop-from-test.false
+returns c =
+    let f = find_from_yields_List (λ (l : List ℕ). is_record (kind_of l)) _ _ c.find.result c.find.ensures.ran
+    (YieldsList-from_map_by _ (λ r. r.now) without_crs (YieldsList-at c.map-lines.ensures.source (YieldsList-from_lines _ c.args.text.now (cc) (cc) (cc) (λ x b q k. search (rules, tests)))) (cc) (λ x r q k. search (rules, tests)))
+    (λ x b q k. search (rules, tests)) in
+    c.kern_column.ensures
+    ∙ ap (kern_column 0 c.args.part) (heads_of c.args.text.now {r = Some c.in_ok-header.header.now} (sym (ap (option_map (λ (y : Bor (List ℕ)). y.now)) c.in_ok-header.was) ∙ f))

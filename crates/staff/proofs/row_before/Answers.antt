@@ -1,35 +1,34 @@
 -- The row so far, and what the lines left make of it, are the row before line k.
-use native.Mathlib.Omega.{arith}
-use Rattle.reader.proofs.LoopLaws.{inside_of}
-use Rattle.staff.proofs.WalkLaws.{walking_first, walking_on, walking_turn, walking_past}
+use Prim.Native.Nat.{ℕ, ◌+◌, ◌-◌}
+use mathlib.Core.List.{List, [], ◌∷◌, ◌++◌}
+use denote.Ref.{Bor}
+use mathlib.Core.Path.{◌≡◌}
+use Rattle.std.proofs.Common.{rules, arith}
+use borrow.Author.Tests.{tests}
+use lib.ListN.{length, take, length-append}
+use Rattle.std.proofs.lemmas.Iterator.{YieldsList-from_take}
+use Rattle.std.proofs.lemmas.Iterator.Consumers.{YieldsList-at}
+use Rattle.lines.specs.Lines.{lines_of}
+use Rattle.staff.proofs.WalkLaws.{YieldsList-from_lines, item_is, items_end, walking_first, walking_turn, walking_past}
 use Rattle.staff.proofs.row_before.Goals as goal
 
-pub overflow_sub-left : goal.overflow_sub-left
-overflow_sub-left c = c.requires.some_line
+pub loop-line-init : goal.loop-line-init
+loop-line-init c = walking_first (take (c.args.k - 1) (lines_of c.args.text.now)) c.args.rows.now.row
 
-pub loop-left-init : goal.loop-left-init
-loop-left-init c = walking_first c.requires _
-
-pub next_line-next-requires : goal.next_line-next-requires
-next_line-next-requires c = (walking_on c.loop-left.invariant, c.requires.short)
-
-pub overflow_sub-next : goal.overflow_sub-next
-overflow_sub-next c = omega (arith, c.next_line-next.ensures)
-
-pub line_of-line-requires : goal.line_of-line-requires
-line_of-line-requires c = inside_of c.args.text.now (walking_on c.loop-left.invariant) c.next_line-next.ensures
+pub loop-line-preserved : goal.loop-line-preserved
+loop-line-preserved c =
+    let t = item_is {v = λ (y : Bor (List ℕ)). y.now} c.loop-line.yielded _ c.loop-line.yielded_by _ _ c.in-Some.line c.in-Some.is c.next.ensures.steps
+    (YieldsList-at c.into_iter-line-iterator.ensures.into_iter_gives (YieldsList-from_take (c.args.k - 1)
+    (YieldsList-at c.take-line-items.ensures.source (YieldsList-from_lines _ c.args.text.now (cc) (cc) (cc) (λ x b q k. search (rules, tests)))) (cc))) in
+    let n : length (c.loop-line.yielded ++ (c.in-Some.line ∷ [])) ≡ length c.loop-line.yielded + 1 = length-append c.loop-line.yielded (c.in-Some.line ∷ []) in
+    rw n (walking_turn c.loop-line.invariant t.0 t.1 c.bare-line.ensures c.line_kind.ensures c.row_past-active.ensures c.begun_after-begun.ensures)
 
 pub row_past-active-requires : goal.row_past-active-requires
-row_past-active-requires c = (omega arith, (c.loop-left.invariant.few, c.line_kind-kind.ensures))
-
-pub overflow_sub-left-in-loop-left : goal.overflow_sub-left-in-loop-left
-overflow_sub-left-in-loop-left c = omega (arith, c.loop-left-test.true)
-
-pub loop-left-smaller : goal.loop-left-smaller
-loop-left-smaller c = omega (arith, c.loop-left-test.true)
-
-pub loop-left-preserved : goal.loop-left-preserved
-loop-left-preserved c = walking_turn c.loop-left.invariant c.loop-left-test.true c.next_line-next.ensures c.line_of-line.ensures c.line_kind-kind.ensures c.row_past-active.ensures c.begun_after-begun.ensures
+row_past-active-requires c = c.loop-line.invariant.few
 
 pub returns : goal.returns
-returns c = walking_past c.loop-left.invariant c.loop-left-test.false
+returns c =
+    let n = items_end {v = λ (y : Bor (List ℕ)). y.now} c.loop-line.yielded _ c.loop-line.yielded_by _ _ c.in-None.is c.next.ensures.steps
+    (YieldsList-at c.into_iter-line-iterator.ensures.into_iter_gives (YieldsList-from_take (c.args.k - 1)
+    (YieldsList-at c.take-line-items.ensures.source (YieldsList-from_lines _ c.args.text.now (cc) (cc) (cc) (λ x b q k. search (rules, tests)))) (cc))) in
+    walking_past c.loop-line.invariant (omega (arith, n))

@@ -4,7 +4,7 @@ use native.Mathlib.Omega.{arith}
 use mathlib.Core.Path.{ap, ◌∙◌}
 use mathlib.Core.List.{List}
 use Rattle.slices.specs.Store.{stored}
-use Rattle.holders.specs.declared.Holder.{Holder}
+use Rattle.holders.specs.declared.list.Holder.{Holder}
 use Rattle.kern_ffi.specs.Answer.{entry_numbers}
 use Rattle.kern_ffi.proofs.AnswerLaws.{answers}
 use Rattle.kern_ffi.proofs.causes.kern_read_lines.Goals as goal
@@ -22,5 +22,5 @@ returns c =
       stopped = a.1.1.1.1.1.0;
       joined = a.1.1.1.1.1.1.0;
       traced = a.1.1.1.1.1.1.1;
-      lines = c.put_lines.ensures ∙ ap (λ (hs : List Holder). stored c.args.lines.now (entry_numbers hs)) e.lines.0;
+      lines = c.put_lines.ensures ∙ ap (λ (hs : List Holder). stored c.args.lines.now (entry_numbers hs)) (c.as_slice.ensures.all ∙ e.lines);
     }
