@@ -123,28 +123,6 @@ fn settle(row: &mut [u16; 512], cells: &mut [u16], masks: &mut [u8; 8192]) -> Re
     Ok(count)
 }
 
-// One star record: question 17, then the next row of the first `active` cells, at most 256, with its voices, over the old one: how many spines
-// are active then. `new` is room for it.
-pub fn step_row(
-    line: &[u8],
-    row: &mut [u16; 512],
-    active: usize,
-    new: &mut [u16; 512],
-    masks: &mut [u8; 8192],
-) -> Result<usize, Stop>
-    ensures outcome { outcome_of result row.new ≡ step_row (row_of (take (min active 256) row.old)) (record_tokens (min active 256) line.now) }
-    ensures wide { length row.new ≡ 512 }
-    ensures few { active_after result ≤ 256 }
-{
-    match spines::mixed_run(line, row, active) {
-        Some(column) => Err(Stop::Mixed(column)),
-        None => {
-            let count = spines::next_row(line, row, active, new);
-            settle(row, &mut new[..count], masks)
-        }
-    }
-}
-
 // The row of spines in cells, and what a star record is lent beside it: room for the next row, and a mask of held voices for each part.
 #[derive(Drop)]
 pub struct Rows {
