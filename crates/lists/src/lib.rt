@@ -16,12 +16,13 @@ fn put_articulation(out: &mut [u8], k: usize, b: u8) -> usize
     requires { k + length (articulations_in (b ∷ [])) ≤ length out.old }
     ensures { (out.new ≡ sets out.old k (articulations_in (b ∷ []))) × (result ≡ k + length (articulations_in (b ∷ []))) }
 {
-    let a = scan::articulation(b);
-    if a < 5 {
-        out[k] = a;
-        return k + 1;
+    match scan::articulation(b) {
+        Some(a) => {
+            out[k] = a;
+            k + 1
+        }
+        None => k,
     }
-    k
 }
 
 // The articulations of a token, for which there is room; no digit, letter of a step or blank is one.

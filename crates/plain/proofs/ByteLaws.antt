@@ -95,9 +95,6 @@ articulation_in b h =
     rw (swap 39 b, swap 94 b, swap 126 b, swap 59 b, swap 84 b, swap 116 b)
     (articulation_by (eqb b 39) (eqb b 94) (eqb b 126) (eqb b 59) (eqb b 84) (eqb b 116) h)
 
-pub small : (r b : ℕ) → r ≡ articulation b → r < 5 → ltb (articulation b) 5 ≡ true
-small r b e h = ap (λ (x : ℕ). ltb x 5) (sym e) ∙ lt-ltb r 5 h
-
 -- ---- marks
 pub mark_turn : {line : List ℕ} {from i : ℕ} {fresh s t : Said} (b : ℕ) → Marking line from fresh s i → i < length line → get_or line i 0 ≡ b
     → contains b mark_bytes ≡ true → t ≡ said_by s b → Marking line from fresh t (i + 1)

@@ -145,7 +145,7 @@ fn marks(line: &[u8], from: usize, ties: bool, slurs: bool) -> Marked
             }
             b'(' => said.slurs = true,
             b')' => said.slurred = true,
-            b if scan::articulation(b) < 5 => said.articulations += 1,
+            b if scan::articulation(b).is_some() => said.articulations += 1,
             b if is_unknown(b, i - from) => said.unknown = true,
             _ => return Marked { end: i, ..said },
         }

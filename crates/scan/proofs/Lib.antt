@@ -7,3 +7,4 @@ pub mod MarkLaws
 pub mod ScanLaws
 pub mod UnknownLaws
 mod MaskLaws
+pub mod NumberLaws

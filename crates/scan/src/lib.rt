@@ -3,7 +3,7 @@
 // One pass over a token, and what becomes of it.
 pub mod outcome;
 
-ghost use Rattle.std.specs.Prelude.{◌≡◌, true, cond, ◌||◌, ◌+◌, ◌≤◌, ◌<◌, eqb, ltb, length, get_or, [], ◌∷◌};
+ghost use Rattle.std.specs.Prelude.{◌≡◌, true, cond, ◌||◌, ◌+◌, ◌≤◌, ◌<◌, eqb, ltb, length, get_or, [], ◌∷◌, MatchOption};
 ghost use Rattle.notation.specs.Bytes.{contains};
 ghost use Rattle.pitch.specs.Pitch.{pitch_of};
 ghost use Rattle.token.specs.Token.{fits, signs, known, passes, is_unknown, grace_by, articulation};
@@ -244,18 +244,18 @@ fn grace_by(grace: u8, b: u8) -> u8
     }
 }
 
-// The number of an articulation; 5 for any other byte.
+// The number of an articulation; None for any other byte.
 #[tactic(auto, using(std::proofs::lemmas::Bool::Decides::nat_tests), unfolding(token::specs::Token::articulation))]
-pub fn articulation(b: u8) -> u8
-    ensures { result ≡ articulation b }
+pub fn articulation(b: u8) -> Option<u8>
+    ensures { MatchOption result (articulation b ≡ 5) (λ a. (a ≡ articulation b) × (a < 5)) }
 {
     match b {
-        b'\'' => 0,
-        b'^' => 1,
-        b'~' => 2,
-        b';' => 3,
-        b'T' | b't' => 4,
-        _ => 5,
+        b'\'' => Some(0),
+        b'^' => Some(1),
+        b'~' => Some(2),
+        b';' => Some(3),
+        b'T' | b't' => Some(4),
+        _ => None,
     }
 }
 
@@ -272,7 +272,7 @@ fn step_marks(m: Marks, item: Item) -> Marks
             slurs: m.slurs || b == b'(',
             slurred: m.slurred || b == b')',
             grace: grace_by(m.grace, b),
-            articulations: m.articulations + usize::from(articulation(b) < 5),
+            articulations: m.articulations + usize::from(articulation(b).is_some()),
         },
         _ => m,
     }

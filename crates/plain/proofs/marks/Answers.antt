@@ -1,12 +1,14 @@
 -- The bytes up to i are marks, and the flags and the count say what they say; no more are articulations than there are bytes.
-use mathlib.Core.Path.{◌≡◌, refl}
+use mathlib.Core.Path.{◌≡◌, refl, sym, ◌∙◌}
 use mathlib.Core.Bool.{true}
 use lib.ListN.{get_or}
+use lib.Dec.{ltb}
 use Rattle.plain.specs.Usual.{unknown_bytes}
 use native.Mathlib.Omega.{arith}
 use Rattle.notation.specs.Bytes.{contains}
 use Rattle.token.specs.Token.{articulation}
-use Rattle.plain.proofs.ByteLaws.{mark_turn, small, articulation_mark, said_articulation, unknown_mark, said_unknown}
+use Rattle.scan.proofs.NumberLaws.{counts}
+use Rattle.plain.proofs.ByteLaws.{mark_turn, articulation_mark, said_articulation, unknown_mark, said_unknown}
 use Rattle.plain.proofs.PieceLaws.{carried_first, carried_turn}
 use Rattle.plain.proofs.marks.Goals as goal
 use Rattle.plain.proofs.marks.Goals.{in-76, in-74, in-91, in-93, in-95, in-40, in-41, in_default, in_default-2}
@@ -27,7 +29,7 @@ loop-i-preserved c =
       | in-41 w ↦ rw w.said-is (mark_turn 41 c.loop-i.invariant.0 c.loop-i-test.true w.in-41.is refl refl, omega arith, c.loop-i.invariant.2)
       | in_default w ↦
           let b = get_or c.args.line.now c.loop-i.i 0 in
-          let few = small w.articulation.result b w.articulation.ensures w.if-articulation-lt5.true in
+          let few : ltb (articulation b) 5 ≡ true = sym (counts _ _ w.articulation.ensures) ∙ sym w.is_some.ensures ∙ w.if-is_some.true in
           rw w.said-is (carried_turn c.loop-i.invariant.0 c.loop-i-test.true (articulation_mark b few) (said_articulation _ b few), omega arith, c.loop-i.invariant.2)
       | in_default-2 w ↦
           let b = get_or c.args.line.now c.loop-i.i 0 in

@@ -9,6 +9,7 @@ use native.Mathlib.Omega.{arith}
 use Rattle.std.proofs.lemmas.Bool.Decides.{nat_tests}
 use Rattle.slices.specs.Ascii.{ascii}
 use Rattle.notation.specs.Bytes.{contains}
+use Rattle.scan.proofs.NumberLaws.{counts}
 use Rattle.scan.proofs.step_marks.Goals.{then-m, else-m+in-91, else-m+in_default-matches, then-m-2, else-m-2+in-93, else-m-2+in_default-matches-2, then-m-3, else-m-3, then-m-4, else-m-4}
 use Rattle.scan.proofs.step_marks.Goals as goal
 
@@ -26,5 +27,5 @@ returns-after-m-4 c =
     let slurs : c.if-m-3.result ≡ (c.args.m.slurs || contains c.in-Mark.b (ascii "(")) = elim c.if-m-3.branch [ then-m-3 w ↦ grind (arith, nat_tests) | else-m-3 w ↦ grind (arith, nat_tests) ] in
     let slurred : c.if-m-4.result ≡ (c.args.m.slurred || contains c.in-Mark.b (ascii ")")) = elim c.if-m-4.branch [ then-m-4 w ↦ grind (arith, nat_tests) | else-m-4 w ↦ grind (arith, nat_tests) ] in
     let counted : c.args.m.articulations + c.from.result ≡ cond (ltb (articulation c.in-Mark.b) 5) 1 0 + c.args.m.articulations =
-    rw (c.from.ensures, c.articulation.ensures) (one_more_lem (ltb (articulation c.in-Mark.b) 5) c.args.m.articulations) in
+    rw (c.from.ensures, c.is_some.ensures, counts _ _ c.articulation.ensures) (one_more_lem (ltb (articulation c.in-Mark.b) 5) c.args.m.articulations) in
     rw (c.in-Mark.is, ties, tied, slurs, slurred, c.grace_by.ensures, counted)
