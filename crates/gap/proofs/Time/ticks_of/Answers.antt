@@ -1,13 +1,9 @@
 -- The ticks of a value, in whole numbers of 64 bits.
 use mathlib.Core.Path.{ap, ◌∙◌}
 use Prim.Native.Nat.{ℕ, ◌*◌}
-use lib.Pow.{pow_pos}
 use Rattle.gap.proofs.ValueLaws.{unit_is, ticks_none, ticks_broken, ticks_by}
 use Rattle.gap.proofs.Time.ticks_of.Goals as goal
 use Rattle.gap.proofs.Time.ticks_of.Goals.{then-all-eq0-via-then-all-eq0, then-all-eq0-via-else-all-eq0+then-all-unit-ne0}
-
-pub nonzero_rem-all : goal.nonzero_rem-all
-nonzero_rem-all c = rw (unit_is c.args.value c.requires) (pow_pos c.args.value)
 
 pub returns-then-all-eq0 : goal.returns-then-all-eq0
 returns-then-all-eq0 c =
@@ -17,9 +13,6 @@ returns-then-all-eq0 c =
       | then-all-eq0-via-then-all-eq0 w ↦ ticks_none c.args.self.divisions c.args.value is_all unit w.if-all-eq0.true
       | then-all-eq0-via-else-all-eq0+then-all-unit-ne0 w ↦ ticks_broken c.args.self.divisions c.args.value is_all unit w.if-all-unit-ne0.true
     ]
-
-pub nonzero_div-all : goal.nonzero_div-all
-nonzero_div-all c = rw (unit_is c.args.value c.requires) (pow_pos c.args.value)
 
 pub returns : goal.returns
 returns c =

@@ -5,9 +5,6 @@ use Rattle.gap.specs.Values.{tuplet_by}
 use Rattle.gap.proofs.SearchLaws.{shortest_is}
 use Rattle.gap.proofs.Time.tuplet.Goals as goal
 
-pub returns-then-is_exact : goal.returns-then-is_exact
-returns-then-is_exact c = rw (sym c.is_exact.ensures ∙ c.if-is_exact.true)
-
 pub returns : goal.returns
 returns c =
     rw (sym c.is_exact.ensures ∙ c.if-is_exact.false)
