@@ -28,7 +28,7 @@ use token::outcome::Note;
 use token::scan::Scan;
 
 // Where a token stands: its part and voice, line and column from 1, and its offset in the text.
-#[derive(Clone, Copy)]
+#[derive(Clone, Copy, PartialEq, Eq, Debug)]
 pub struct Spot {
     pub part: usize,
     pub voice: usize,

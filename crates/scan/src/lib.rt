@@ -15,7 +15,7 @@ use items::Item;
 use token::scan::{Given, Scan};
 
 // Whether digits stand before in the sub-token, and right before; whether a length was bad.
-#[derive(Clone, Copy)]
+#[derive(Clone, Copy, PartialEq, Eq, Debug)]
 pub struct Lengths {
     pub had: bool,
     pub behind: bool,
@@ -23,7 +23,7 @@ pub struct Lengths {
 }
 
 // What the first sub-token says so far.
-#[derive(Clone, Copy)]
+#[derive(Clone, Copy, PartialEq, Eq, Debug)]
 pub struct First {
     pub begun: bool,
     pub over: bool,
@@ -33,7 +33,7 @@ pub struct First {
 }
 
 // Whether the sub-token has a pitch; how many pitches and signifiers there were.
-#[derive(Clone, Copy)]
+#[derive(Clone, Copy, PartialEq, Eq, Debug)]
 pub struct Sounds {
     pub sounding: bool,
     pub pitches: usize,
@@ -41,7 +41,7 @@ pub struct Sounds {
 }
 
 // What the single bytes say so far.
-#[derive(Clone, Copy)]
+#[derive(Clone, Copy, PartialEq, Eq, Debug)]
 pub struct Marks {
     pub ties: bool,
     pub tied: bool,

@@ -62,7 +62,7 @@ pub fn find_far(s: &[u8], b: u8) -> usize
 pub fn count(s: &[u8], b: u8) -> usize
     ensures { (result ≡ length (split b s.now)) × (result ≤ length s.now + 1) }
 {
-    let (parts, rest) = s.as_chunks::<16>();
+    let (parts, rest) = s.as_chunks::<255>();
     let mut n = 0;
     for part in parts {
         n += usize::from(hits(part, b));

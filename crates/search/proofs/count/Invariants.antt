@@ -7,4 +7,4 @@ use lib.Dec.{eqb}
 use Rattle.search.proofs.count.Given as goal
 
 abbrev pub invariant-loop-part : goal.invariant-loop-part
-invariant-loop-part l = l.n ≡ count_by (λ x. eqb x l.b) (take (16 * l.part-index) l.s)
+invariant-loop-part l = l.n ≡ count_by (λ x. eqb x l.b) (take (255 * l.part-index) l.s)
