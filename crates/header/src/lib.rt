@@ -17,7 +17,7 @@ ghost use Rattle.header.specs.Columns.{notice_other, HeaderTable};
 ghost use Rattle.state.specs.Counts.{Same};
 
 use notice::Code;
-use place::TextLine;
+use place::{TextLine, TextToken};
 use reading::Part;
 use reference::Key;
 use refusal::Refusal;
@@ -69,7 +69,7 @@ fn all_exclusive(line: &[u8]) -> bool
 }
 
 // The header's table of active spines, and how many parts it has.
-#[derive(Clone, Copy, Debug)]
+#[derive(Clone, Copy, PartialEq, Eq, Debug)]
 struct Table {
     spines: [Option<Line>; 256],
     parts: usize,
@@ -128,30 +128,23 @@ fn fresh_parts(parts: &mut [Part])
 }
 
 // Notice 2 for a token that isn't `**kern`.
-fn notice_other(
-    token: &[u8],
-    number: u32,
-    column: u16,
-    at: u32,
-    tally: Tally,
-    out: &mut [u8],
-) -> Tally
-    requires { length token.now < 2 ^ 32 }
-    ensures { (Same tally result) × ((cells : List ℕ) (parts : List Part) → told (Ok result) cells parts out.new ≡ landed (goes (notice_other number column at token.now (state_of cells parts tally))) out.old tally.at) }
+fn notice_other(token: TextToken, tally: Tally, out: &mut [u8]) -> Tally
+    ensures { (Same tally result) × ((cells : List ℕ) (parts : List Part) → told (Ok result) cells parts out.new ≡ landed (goes (notice_other token.entry.line token.entry.column token.entry.offset token.entry.bytes.now (state_of cells parts tally))) out.old tally.at) }
 {
-    if lines::is_kern(token) {
+    if lines::is_kern(token.bytes) {
         return tally;
     }
+    let piece = Span {
+        at: token.offset,
+        len: token.bytes.len() as u32,
+    };
     writing::notify(
         out,
         tally,
         Code::UnsupportedSpine,
-        number,
-        column,
-        Span {
-            at,
-            len: token.len() as u32,
-        },
+        token.line,
+        token.column,
+        piece,
     )
 }
 
@@ -164,8 +157,14 @@ fn notice_others(line: TextLine, tally: Tally, out: &mut [u8]) -> Tally
     let mut at = line.offset;
     for (i, token) in line.bytes.split(|b| *b == b'\t').enumerate() {
         let column = i as u16 + 1;
-        t = notice_other(token, line.number, column, at, t, out);
-        at += token.len() as u32 + 1;
+        let token = TextToken {
+            bytes: token,
+            line: line.number,
+            column,
+            offset: at,
+        };
+        t = notice_other(token, t, out);
+        at += token.bytes.len() as u32 + 1;
     }
     t
 }

@@ -65,6 +65,7 @@ pub fn meter_of(s: &[u8]) -> Result<Interpretation, Unsupported>
 }
 
 // The sign that the text behind `met(` gives.
+#[tactic(auto, using(crate::proofs::WordLaws::other_symbol), unfolding(crate::specs::Meter::symbols))]
 pub fn symbol_of(s: &[u8]) -> Result<Interpretation, Unsupported>
     ensures { result ≡ symbol_of s.now }
 {

@@ -64,6 +64,7 @@ impl Refusal {
     }
 
     // The number of the line that it names; 0 for a refusal of the whole text.
+    // Stays: 0 and not an Option, as the C interface's answer and what a program prints have it.
     pub fn line(self) -> u32
         ensures { result ≡ line_of self }
     {
@@ -86,6 +87,7 @@ impl Refusal {
     }
 
     // What the question counts or names; 0 where it has no figure.
+    // Stays: 0 and not an Option, likewise.
     pub fn figure(self) -> usize
         ensures { result ≡ figure_of self }
     {

@@ -135,6 +135,7 @@ fn exchanges_right(line: &[u8], from: usize, end: usize, n: usize, left: bool) -
 }
 
 // The columns of a star record under a row, as far as the line has tokens.
+// Stays: the tokens by their ends, since a turn asks for the token ahead and for its own offset, which `split` doesn't give.
 pub fn read_columns(
     line: TextLine,
     row: &[u16],
@@ -175,7 +176,7 @@ fn answer(step: Result<usize, Stop>, tally: Tally, number: u32) -> Result<Tally,
     ensures { result ≡ stepped step tally number }
 {
     match step {
-        Ok(n) => Ok(state::with_active(tally, n)),
+        Ok(active) => Ok(Tally { active, ..tally }),
         Err(Stop::Mixed(column)) => Err(Refusal::MixedJoin {
             line: number,
             column,

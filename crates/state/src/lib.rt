@@ -4,13 +4,14 @@
 ghost use Rattle.std.specs.Prelude.{◌≡◌};
 ghost use Rattle.reading.specs.State.{blank_bar, fresh_part};
 ghost use Rattle.state.specs.Lay.{past};
-ghost use Rattle.state.specs.Counts.{with_active};
 
 use reading::Part;
 use sheet::{Bar, Span};
 
 // Active spines and parts, bars closed, notes and kept notices, the first tempo, what the references set, and where the next record goes.
-#[derive(Clone, Copy)]
+// Stays: a ghost field for at most 256 parts and 100,000 bars would take `..tally` from the functions that change one count.
+// Stays: parts, counts and buffer are lent apart; in one struct, each function that leaves the parts alone would have to say so.
+#[derive(Clone, Copy, PartialEq, Eq, Debug)]
 pub struct Tally {
     pub active: usize,
     pub parts: usize,
@@ -25,7 +26,8 @@ pub struct Tally {
 }
 
 // What becomes of the reading behind a line that is not refused: it goes on, or ends, with these counts.
-#[derive(Clone, Copy)]
+// Stays: `ControlFlow<Tally, Tally>` is the same two cases, by names that say less.
+#[derive(Clone, Copy, PartialEq, Eq, Debug)]
 pub enum Flow {
     Goes(Tally),
     Ends(Tally),
@@ -36,13 +38,6 @@ pub fn past(at: usize, n: usize) -> usize
     ensures { result ≡ past at n }
 {
     std::num::wrapping_add_usize(at, n)
-}
-
-// The counts with so many active spines.
-pub fn with_active(tally: Tally, active: usize) -> Tally
-    ensures { result ≡ with_active tally active }
-{
-    Tally { active, ..tally }
 }
 
 // A bar of part p with all unset.

@@ -17,9 +17,9 @@ overflow_cast-column c = let t = token_turn (tokens_of c.args.line.bytes.now) (Y
 pub overflow_add-column : goal.overflow_add-column
 overflow_add-column c = let t = token_turn (tokens_of c.args.line.bytes.now) (YieldsList-turn (YieldsList-from_enumerate (YieldsList-from_tokens _ c.args.line.bytes.now (cc) (cc) (cc) (λ x b q k. search (rules, tests))) (cc)) c.loop-i.yielded _ c.loop-i.yielded_by _ _ (c.in-Some.i, c.in-Some.token) c.in-Some.is c.next.ensures.steps) in omega (arith, t.0, t.1.0, c.requires)
 
-pub notice_other-t-requires : goal.notice_other-t-requires
-notice_other-t-requires c = let t = token_turn (tokens_of c.args.line.bytes.now) (YieldsList-turn (YieldsList-from_enumerate (YieldsList-from_tokens _ c.args.line.bytes.now (cc) (cc) (cc) (λ x b q k. search (rules, tests))) (cc)) c.loop-i.yielded _ c.loop-i.yielded_by _ _ (c.in-Some.i, c.in-Some.token) c.in-Some.is c.next.ensures.steps) in
-    omega (arith, noticing_room c.loop-i.invariant t.0 c.in-Some.token.now t.1.1, c.args.line.short)
+pub invariant_of-token : goal.invariant_of-token
+invariant_of-token c = let t = token_turn (tokens_of c.args.line.bytes.now) (YieldsList-turn (YieldsList-from_enumerate (YieldsList-from_tokens _ c.args.line.bytes.now (cc) (cc) (cc) (λ x b q k. search (rules, tests))) (cc)) c.loop-i.yielded _ c.loop-i.yielded_by _ _ (c.in-Some.i, c.in-Some.token) c.in-Some.is c.next.ensures.steps) in
+    record { short = omega (arith, noticing_room c.loop-i.invariant t.0 c.in-Some.token.now t.1.1, c.args.line.short) }
 
 pub loop-i-preserved : goal.loop-i-preserved
 loop-i-preserved c = let t = token_turn (tokens_of c.args.line.bytes.now) (YieldsList-turn (YieldsList-from_enumerate (YieldsList-from_tokens _ c.args.line.bytes.now (cc) (cc) (cc) (λ x b q k. search (rules, tests))) (cc)) c.loop-i.yielded _ c.loop-i.yielded_by _ _ (c.in-Some.i, c.in-Some.token) c.in-Some.is c.next.ensures.steps) in

@@ -4,7 +4,7 @@ use Rattle.slices.specs.Ascii.{ascii}
 use Rattle.slices.specs.Compare.{same_bytes}
 use Rattle.interpretation.specs.Words.{named}
 use Rattle.interpretation.specs.Clef.{clefs, clef_of}
-use Rattle.interpretation.proofs.WordLaws.{is_clef, other_clef}
+use Rattle.interpretation.proofs.WordLaws.{is_clef}
 use Rattle.interpretation.proofs.clef.clef_of.Goals as goal
 
 pub returns-in-X : goal.returns-in-X
@@ -50,55 +50,3 @@ returns-in-71 c = is_clef (ascii "G^2") c.args.s.now (omega arith) (search rules
 pub returns-in-Fv4 : goal.returns-in-Fv4
 unfolding clef_of clefs named same_bytes
 returns-in-Fv4 c = is_clef (ascii "Fv4") c.args.s.now (omega arith) (search rules) refl
-
-pub returns-in_default : goal.returns-in_default
-unfolding clefs
-returns-in_default c = other_clef _ (search rules)
-
-pub returns-in_default-2 : goal.returns-in_default-2
-unfolding clefs
-returns-in_default-2 c = other_clef _ (search rules)
-
-pub returns-in_default-3 : goal.returns-in_default-3
-unfolding clefs
-returns-in_default-3 c = other_clef _ (search rules)
-
-pub returns-in_default-4 : goal.returns-in_default-4
-unfolding clefs
-returns-in_default-4 c = other_clef _ (search rules)
-
-pub returns-in_default-5 : goal.returns-in_default-5
-unfolding clefs
-returns-in_default-5 c = other_clef _ (search rules)
-
-pub returns-in_default-6 : goal.returns-in_default-6
-unfolding clefs
-returns-in_default-6 c = other_clef _ (search rules)
-
-pub returns-in_default-7 : goal.returns-in_default-7
-unfolding clefs
-returns-in_default-7 c = other_clef _ (search rules)
-
-pub returns-in_default-8 : goal.returns-in_default-8
-unfolding clefs
-returns-in_default-8 c = other_clef _ (search rules)
-
-pub returns-in_default-9 : goal.returns-in_default-9
-unfolding clefs
-returns-in_default-9 c = other_clef _ (search rules)
-
-pub returns-in_default-10 : goal.returns-in_default-10
-unfolding clefs
-returns-in_default-10 c = other_clef _ (search rules)
-
-pub returns-in_default-11 : goal.returns-in_default-11
-unfolding clefs
-returns-in_default-11 c = other_clef _ (search rules)
-
-pub returns-in_default-12 : goal.returns-in_default-12
-unfolding clefs
-returns-in_default-12 c = other_clef _ (search rules)
-
-pub returns-in_default-13 : goal.returns-in_default-13
-unfolding clefs
-returns-in_default-13 c = other_clef _ (search rules)
