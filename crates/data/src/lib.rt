@@ -121,20 +121,21 @@ fn read_stretch(
     requires begin { pieces 9 begin line.bytes.now ≡ drop first (tokens_of line.bytes.now) }
     ensures { Stretched line.entry.bytes.now row.now parts.old out.old tally line.entry.number line.entry.offset begin first parts.new out.new result }
 {
+    let bytes = line.bytes;
     let mut from = begin;
     let mut index = first;
     let mut notes = tally.notes;
     let mut at = tally.at;
     for &cell in &row[first..] {
-        if line.bytes.len() < from {
+        if bytes.len() < from {
             break;
         }
         let Spine::Line { part, voice } = spines::spine_of(cell) else {
-            from = lines::token_end(line.bytes, from) + 1;
+            from = lines::token_end(bytes, from) + 1;
             index += 1;
             continue;
         };
-        let Some(shape) = plain::shape_of(line.bytes, from) else {
+        let Some(shape) = plain::shape_of(bytes, from) else {
             break;
         };
         match shape {
@@ -147,7 +148,7 @@ fn read_stretch(
                     break;
                 }
                 let end = p.end;
-                let token = &line.bytes[from..end];
+                let token = &bytes[from..end];
                 let spot = spot_of(line, part, voice, index, from);
                 at = notes::write_plain(token, p, spot, parts, tally, at, out);
                 notes += 1;

@@ -89,11 +89,11 @@ pub struct Place {
 impl Place {
     // The place moves past a line.
     // Stays: a rule of the project: a `&mut` struct for the place, moved by one thin function (docs/DECISIONS.md).
-    pub fn advance(&mut self, text: &[u8])
-        requires { ((self.old.at ≤ length text.now) × (length text.now ≤ 67108864)) × (self.old.line < 2 ^ 27) }
-        ensures { (self.new.at ≡ piece_end 10 text.now self.old.at + 1) × (self.new.line ≡ self.old.line + 1) }
+    pub fn advance(&mut self, text: Text<'_>)
+        requires { (self.old.at ≤ length text.bytes.now) × (self.old.line < 2 ^ 27) }
+        ensures { (self.new.at ≡ piece_end 10 text.entry.bytes.now self.old.at + 1) × (self.new.line ≡ self.old.line + 1) }
     {
-        self.at = next_line(text, self.at);
+        self.at = text.next_line(self.at);
         self.line += 1;
     }
 
@@ -107,18 +107,8 @@ impl Place {
         if text.bytes.len() < at {
             return None;
         }
-        self.advance(text.bytes);
+        self.advance(text);
         let bytes = text.content(at, self.at - 1);
         Some(TextLine::new(bytes, self.line, at as u32))
     }
-}
-
-// The place past the line that begins at `at`, behind `line` lines.
-pub fn past_line(text: &[u8], at: usize, line: u32) -> Place
-    requires { ((at ≤ length text.now) × (length text.now ≤ 67108864)) × (line < 2 ^ 27) }
-    ensures { (result.at ≡ piece_end 10 text.now at + 1) × (result.line ≡ line + 1) }
-{
-    let mut place = Place { at, line };
-    place.advance(text);
-    place
 }
