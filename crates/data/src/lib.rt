@@ -1,7 +1,7 @@
 #![tactic(auto)]
 
 // Data records: their tokens, column by column.
-ghost use Rattle.std.specs.Prelude.{◌≡◌, true, ◌+◌, ◌-◌, ◌^◌, ◌≤◌, ◌<◌, length, take, drop};
+ghost use Rattle.std.specs.Prelude.{◌≡◌, true, ◌+◌, ◌≤◌, ◌<◌, length, take, drop};
 ghost use Rattle.slices.specs.Split.{pieces};
 ghost use Rattle.lines.specs.Tokens.{tokens_of};
 ghost use Rattle.peers.specs.Peers.{is_bare};

@@ -14,21 +14,13 @@ pub struct Text<'a> {
     pub ghost short: { length bytes.now ≤ 67108864 },
 }
 
-// Where the next line begins: behind the next LF from `at` on, or one behind the end of the text.
-pub fn next_line(text: &[u8], at: usize) -> usize
-    requires { (at ≤ length text.now) × (length text.now ≤ 67108864) }
-    ensures { result ≡ piece_end 10 text.now at + 1 }
-{
-    lines::line_end(text, at) + 1
-}
-
 impl<'a> Text<'a> {
     // Where the next line begins: behind the next LF from `at` on, or one behind the end of the text.
     pub fn next_line(self, at: usize) -> usize
         requires { at ≤ length self.bytes.now }
         ensures { result ≡ piece_end 10 self.entry.bytes.now at + 1 }
     {
-        next_line(self.bytes, at)
+        lines::line_end(self.bytes, at) + 1
     }
 
     // The bytes from one index to another, without the CRs at their end.

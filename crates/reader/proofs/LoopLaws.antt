@@ -61,7 +61,7 @@ reading_first {text} {out} {row} {parts} = record {
 }
 
 -- the line's ends, by where the next one begins
-pub inside_of : (text : List ℕ) {from next : ℕ} → from ≤ length text → next ≡ piece_end 10 text from + 1 → (from ≤ next - 1) × (next - 1 ≤ length text)
+inside_of : (text : List ℕ) {from next : ℕ} → from ≤ length text → next ≡ piece_end 10 text from + 1 → (from ≤ next - 1) × (next - 1 ≤ length text)
 inside_of text {from} {next} on moved = let at : Piece 10 text from (next - 1) = piece_at_lem on (omega arith) in (at.low, at.high)
 
 -- the next line is nearer to the end

@@ -1,9 +1,9 @@
 #![tactic(auto)]
 
 // Reads a text of Humdrum **kern into a sheet in a lent buffer: once to measure, and once to write.
-ghost use Rattle.std.specs.Prelude.{◌≡◌, ℕ, ◌+◌, ◌-◌, ◌≤◌, ◌<◌, ◌^◌, false, List, length, take, drop};
+ghost use Rattle.std.specs.Prelude.{◌≡◌, ℕ, ◌+◌, ◌≤◌, ◌<◌, ◌^◌, false, List, length};
 ghost use Rattle.utf8.specs.Utf8.{utf8_length};
-ghost use Rattle.lines.specs.Lines.{lines_of, without_crs};
+ghost use Rattle.lines.specs.Lines.{lines_of};
 ghost use Rattle.refusal.specs.declared.Refusal.TheVariants.{ShortBuffer};
 ghost use Rattle.reading.specs.State.{start};
 ghost use Rattle.reading.specs.Text.{answer_of, buffer_of};
@@ -75,23 +75,6 @@ fn finish_text(
         notes: tally.notes,
         at,
     })
-}
-
-// The line from one index to another, without its trailing CRs.
-pub fn line_of(text: &[u8], from: usize, end: usize) -> &[u8]
-    requires { (from ≤ end) × (end ≤ length text.now) }
-    ensures { result.now ≡ without_crs (take (end - from) (drop from text.now)) }
-{
-    let line = &text[from..end];
-    let long = lines::content(line);
-    &line[..long]
-}
-
-// How many cells an array has for the row.
-pub fn room(row: &[u16]) -> usize
-    ensures { result ≡ length row.now }
-{
-    row.len()
 }
 
 // Whether a line of some kind does nothing: an empty line, and a `!` line that is no reference.

@@ -1,7 +1,7 @@
 #![tactic(auto)]
 
 // One line of a text: its kind, its repair, and what it comes to.
-ghost use Rattle.std.specs.Prelude.{◌≡◌, ◌||◌, List, ℕ, ◌+◌, ◌<◌, ◌^◌, length, take, ◌≤◌};
+ghost use Rattle.std.specs.Prelude.{◌≡◌, ◌≤◌, ℕ, List, length, take};
 ghost use Rattle.std.specs.Option.{option_map};
 ghost use Rattle.notice.specs.Number.{number_of};
 ghost use Rattle.lines.specs.Tokens.{tokens_of};
@@ -67,13 +67,6 @@ pub fn is_record(kind: Kind) -> bool
     ensures { result ≡ is_record kind }
 {
     matches!(kind, Kind::Star | Kind::Bar | Kind::Data)
-}
-
-// Whether the header has been met once a line of some kind is read.
-pub fn begun_after(begun: bool, kind: Kind) -> bool
-    ensures { result ≡ (begun || is_record kind) }
-{
-    begun || is_record(kind)
 }
 
 // A barline record under the first cells of the row.

@@ -68,7 +68,7 @@ fn row_before(text: &[u8], k: usize, rows: &mut Rows) -> usize
     for line in text.split(|b| *b == b'\n').take(k.saturating_sub(1)) {
         let line = bare(line);
         active = row_past(begun, line, rows, active);
-        begun = records::begun_after(begun, lines::line_kind(line));
+        begun |= records::is_record(lines::line_kind(line));
     }
     active
 }
@@ -78,7 +78,7 @@ fn header_column(text: &[u8], part: usize) -> Option<usize>
     ensures { or_zero result ≡ kern_column 0 part (header_of text.now) }
 {
     let mut lines = text.split(|b| *b == b'\n').map(bare);
-    let header = lines.find(|line| records::begun_after(false, lines::line_kind(line)))?;
+    let header = lines.find(|line| records::is_record(lines::line_kind(line)))?;
     holders::kern_column(header, part)
 }
 

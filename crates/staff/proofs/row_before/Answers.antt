@@ -2,7 +2,8 @@
 use Prim.Native.Nat.{ℕ, ◌+◌, ◌-◌}
 use mathlib.Core.List.{List, [], ◌∷◌, ◌++◌}
 use denote.Ref.{Bor}
-use mathlib.Core.Path.{◌≡◌}
+use mathlib.Core.Path.{◌≡◌, ap}
+use mathlib.Core.Bool.{Bool, ◌||◌}
 use Rattle.std.proofs.Common.{rules, arith}
 use borrow.Author.Tests.{tests}
 use lib.ListN.{length, take, length-append}
@@ -21,7 +22,7 @@ loop-line-preserved c =
     (YieldsList-at c.into_iter-line-iterator.ensures.into_iter_gives (YieldsList-from_take (c.args.k - 1)
     (YieldsList-at c.take-line-items.ensures.source (YieldsList-from_lines _ c.args.text.now (cc) (cc) (cc) (λ x b q k. search (rules, tests)))) (cc))) in
     let n : length (c.loop-line.yielded ++ (c.in-Some.line ∷ [])) ≡ length c.loop-line.yielded + 1 = length-append c.loop-line.yielded (c.in-Some.line ∷ []) in
-    rw n (walking_turn c.loop-line.invariant t.0 t.1 c.bare-line.ensures c.line_kind.ensures c.row_past-active.ensures c.begun_after-begun.ensures)
+    rw n (walking_turn c.loop-line.invariant t.0 t.1 c.bare-line.ensures c.line_kind.ensures c.row_past-active.ensures (ap (λ (b : Bool). c.loop-line.begun || b) c.is_record-begun.ensures))
 
 pub row_past-active-requires : goal.row_past-active-requires
 row_past-active-requires c = c.loop-line.invariant.few
