@@ -25,7 +25,8 @@ fn put_articulation(out: &mut [u8], k: usize, b: u8) -> usize
     }
 }
 
-// The articulations of a token, for which there is room; no digit, letter of a step or blank is one.
+// The articulations of a token, for which there is room; no digit, letter of a step or blank is one. A call, as `fill_pitches` is: few tokens
+// come here, and any other is read with more registers.
 #[inline(never)]
 pub fn fill_articulations(out: &mut [u8], token: &[u8])
     requires { length (articulation_bytes token.now) ≤ length out.old }

@@ -40,6 +40,7 @@ pub struct Spot {
 // ---- the beam
 
 // A note in a voice of a part: its beam's number. The part keeps the voice's beam, and that it has a note in the bar.
+// Stays: `voice < 4`: a voice is a number in the row's cells, in the sheet and here, an index; an enum of four would be turned into one each time.
 fn sound(part: &mut Part, voice: usize, starts: bool, ends: bool) -> u8
     requires { voice < 4 }
     ensures { (part.new ≡ sounded_by part.old voice starts ends) × (result ≡ beam_number (beam_by part.old voice starts ends).mark) }

@@ -88,6 +88,7 @@ const SILENT: Tone = Tone {
 };
 
 // The opening marks from an index on.
+// Stays: `from ≤ length` here and below: an index beside its own line; the line from there on would say it by its type, and answer other indices.
 fn openings(line: &[u8], from: usize) -> Opening
     requires { from ≤ length line.now }
     ensures { Marking line.now from (opened false false) (opened result.ties result.slurs) result.end }

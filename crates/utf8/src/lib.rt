@@ -97,6 +97,7 @@ fn blocks_64(s: &[u8], from: usize) -> usize
 }
 
 // Whether a character of N bytes, led by lo..=hi, stands at i.
+// Stays: `0 < N` is asked of a const parameter, which no type bounds, and `from ≤ length` of an index beside its own slice.
 fn row<const N: usize>(s: &[u8], lo: u8, hi: u8, i: usize) -> bool
     requires { (0 < N) × (N ≤ 4) × (i ≤ length s.now) }
     ensures { result ≡ begins ((lo, hi) ∷ tails (N - 1)) (drop i s.now) }
