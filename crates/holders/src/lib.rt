@@ -65,6 +65,7 @@ fn is_branch(cell: u16, part: usize, t: PathToken) -> bool
 }
 
 // The branches of the part behind its lines, left to right, up to the one that finds no voice.
+// Stays: no plainer: a walk of its own, as the branches come behind all lines; one walk for both would keep a second list.
 fn branches_of(line: &[u8], row: &[u16], part: usize, header: usize, lines: Holders) -> Holders
     ensures { listed result ≡ branches_from part header (listed lines) 0 (record_tokens (length row.now) line.now) (row_of row.now) }
 {

@@ -2,6 +2,7 @@
 ghost use Rattle.std.specs.Prelude.{◌≡◌, ◌≤◌, length};
 
 // A line or a branch of a part: its column before the record, its voice (4 for none), and the part's header column; columns from 1.
+// Stays: the C interface: an entry's voice is 4 for the branch that finds none, as the definition of the list says it.
 #[derive(Clone, Copy, Debug, PartialEq, Eq)]
 pub struct Holder {
     pub column: usize,

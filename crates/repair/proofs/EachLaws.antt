@@ -1,19 +1,17 @@
 -- Chains over a line's tokens: a test of each; and what the line's first byte says of its first token.
 use mathlib.Core.Path.{◌≡◌, refl, sym, ap, ◌∙◌}
-use Prim.Native.Nat.{ℕ, suc, ◌+◌, ◌-◌, ◌<◌}
+use Prim.Native.Nat.{ℕ}
 use native.Mathlib.Omega.{arith}
 use mathlib.Core.List.{List, [], ◌∷◌, head_d}
 use mathlib.Core.Bool.{Bool, true, false, ◌&&◌}
 use lib.Dec.{eqb}
-use lib.ListN.{length, take, drop, get_or}
-use lib.Seq.{take-nil, drop-nil}
+use lib.ListN.{length, take, get_or}
 use borrow.Author.Tests.{eq-eqb, ne_eqb, eqb-true}
-use Rattle.slices.specs.Split.{join, split, pieces, index_of}
+use Rattle.slices.specs.Split.{join, split, index_of}
 use Rattle.slices.specs.Compare.{begins_with}
-use Rattle.slices.proofs.SplitLaws.{all_pieces, no_piece, first_piece}
+use Rattle.slices.proofs.SplitLaws.{first_piece}
 use Rattle.lines.specs.Lines.{piece_end}
 use Rattle.lines.specs.Tokens.{tokens_of, is_star}
-use Rattle.lines.proofs.PieceLaws.{Piece}
 use Rattle.std.specs.List.{list_all}
 use denote.Enum.Bare.{sameb}
 use Rattle.paths.specs.contracts.PathToken.{the_type}

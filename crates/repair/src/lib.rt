@@ -85,8 +85,7 @@ pub fn repair_record(line: &[u8], active: usize) -> Result<Repair, Unrepaired>
         if ordinary(line) {
             return Ok(Repair::Stars);
         }
-        let several = count >= 2;
-        if several && identical_bars(line) {
+        if count >= 2 && identical_bars(line) {
             return Ok(Repair::Bars);
         }
         return Err(Unrepaired::Uneven(count));

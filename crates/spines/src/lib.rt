@@ -14,6 +14,7 @@ ghost use Rattle.spines.specs.Emit.{mode_of, Emitted};
 use paths::{PathToken, Spine};
 
 // The spine of a cell.
+// Stays: fixed memory: a row is packed, two bytes a spine, and the masks of `voices` stand by a cell's number of its part.
 pub fn spine_of(cell: u16) -> Spine
     ensures { result ≡ spine_of cell }
 {
@@ -38,7 +39,8 @@ enum Left {
 }
 
 // What a token gives: how many of two cells, the cells, and what then stands to the left.
-#[derive(Clone, Copy, Debug)]
+// Stays: no plainer: both cells are written, and the next ones over what is too much, so that no turn tests how many there are.
+#[derive(Clone, Copy, Debug, PartialEq, Eq)]
 struct Emission {
     count: usize,
     first: u16,
@@ -82,13 +84,14 @@ impl Emission {
 }
 
 // A token, and where the next one begins.
-#[derive(Clone, Copy, Debug)]
+#[derive(Clone, Copy, Debug, PartialEq, Eq)]
 pub struct Token {
     pub kind: PathToken,
     pub next: usize,
 }
 
 // The token that begins at `from`, where n are still wanted; an ordinary one where the line has none left.
+// Stays: no plainer: as many tokens are wanted as the row has spines, so an iterator over the line's own could end too early.
 pub fn token_at(line: &[u8], from: usize, n: usize) -> Token
     ensures { Ahead line.now from n result.kind result.next }
 {
@@ -190,6 +193,18 @@ pub struct Line {
     pub voice: u8,
 }
 
+impl From<Line> for u16 {
+    ghost use Rattle.std.specs.Prelude.{Some};
+
+    ghost from_gives = { λ l c. c ≡ cell_of (Some l) };
+
+    // The cell of a line, as `spine_of` reads it.
+    #[tactic(auto, unfolding(crate::specs::Table::cell_of))]
+    fn from(line: Line) -> u16 {
+        (u16::from(line.part) + 1) * 8 + u16::from(line.voice)
+    }
+}
+
 // The table of active spines, looked up by column: a line, or none outside kern.
 pub fn active_at(spines: &[Option<Line>], column: usize) -> Option<Line>
     requires { column < length spines.now }
@@ -198,13 +213,11 @@ pub fn active_at(spines: &[Option<Line>], column: usize) -> Option<Line>
     spines[column]
 }
 
-// The cell of the spine of a column.
+// The cell of the spine of a column, 0 outside kern.
+#[tactic(auto, unfolding(crate::specs::Table::cell_of))]
 pub fn cell_at(spines: &[Option<Line>], column: usize) -> u16
     requires { column < length spines.now }
     ensures { result ≡ cell_of (active_at spines.now column) }
 {
-    match active_at(spines, column) {
-        Some(line) => (u16::from(line.part) + 1) * 8 + u16::from(line.voice),
-        None => 0,
-    }
+    active_at(spines, column).map_or(0, u16::from)
 }

@@ -90,16 +90,15 @@ fn give(cells: &mut [u16], masks: &mut [u8; 8192]) -> Result<(), Stop>
     requires { Account cells.old masks.old (holds (row_of cells.old)) }
     ensures { given_of result cells.new ≡ voice_row (row_of cells.old) }
 {
-    for i in 0..cells.len() {
-        let cell = cells[i];
-        if is_branch(cell) {
-            let q = place(cell);
+    for cell in cells.iter_mut() {
+        if is_branch(*cell) {
+            let q = place(*cell);
             match lowest_free(masks[q]) {
                 Some(voice) => {
-                    cells[i] = voiced(cell, voice);
+                    *cell = voiced(*cell, voice);
                     masks[q] = with_voice(masks[q], voice);
                 }
-                None => return Err(Stop::Voiceless(cell / 8 - 1)),
+                None => return Err(Stop::Voiceless(*cell / 8 - 1)),
             }
         }
     }

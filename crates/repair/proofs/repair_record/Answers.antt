@@ -5,7 +5,7 @@ use Rattle.repair.specs.Repair.{each, is_ordinary}
 use Rattle.repair.specs.declared.Unrepaired.TheVariants.{Uneven}
 use Rattle.repair.proofs.RepairLaws.{surplus, cut_mixed, cut_even, filled_stars, few_one, few_other, filled_bars_lem, whole_mixed, whole_even}
 use Rattle.repair.proofs.repair_record.Goals as goal
-use Rattle.repair.proofs.repair_record.Goals.{else-several-via-then-several+else-identical_bars, else-several-via-else-several}
+use Rattle.repair.proofs.repair_record.Goals.{else-count-ge2-via-then-count-ge2+else-identical_bars, else-count-ge2-via-else-count-ge2}
 
 pub returns-then-not-blank : goal.returns-then-not-blank
 returns-then-not-blank c = ap (λ k. Err (Uneven k)) c.token_count-count.ensures.0 ∙ surplus _ _ (omega arith) (sym c.blank.ensures ∙ c.if-not-blank.true)
@@ -26,9 +26,9 @@ pub returns-then-count-active : goal.returns-then-count-active
 returns-then-count-active c =
     let o : each is_ordinary (tokens_of c.args.line.now) ≡ false = sym c.ordinary.ensures ∙ c.if-ordinary.false in
     ap (λ k. Err (Uneven k)) c.token_count-count.ensures.0
-    ∙ elim c.else-several.branch [
-      | else-several-via-then-several+else-identical_bars w ↦ few_other _ _ (omega arith) o (omega arith) (sym w.identical_bars.ensures ∙ w.if-identical_bars.false)
-      | else-several-via-else-several w ↦ few_one _ _ (omega arith) o (omega arith)
+    ∙ elim c.else-count-ge2.branch [
+      | else-count-ge2-via-then-count-ge2+else-identical_bars w ↦ few_other _ _ (omega arith) o (omega arith) (sym w.identical_bars.ensures ∙ w.if-identical_bars.false)
+      | else-count-ge2-via-else-count-ge2 w ↦ few_one _ _ (omega arith) o (omega arith)
     ]
 
 pub returns-then-mixed-2 : goal.returns-then-mixed-2

@@ -3,5 +3,5 @@ use lib.ListN.{length}
 use Rattle.voices.proofs.GiveLaws.{Giving}
 use Rattle.voices.proofs.give.Given as goal
 
-abbrev pub invariant-loop-i : goal.invariant-loop-i
-invariant-loop-i l = Giving l.initial.cells l.cells l.masks (length l.initial.masks) l.i
+abbrev pub invariant-loop-cell : goal.invariant-loop-cell
+invariant-loop-cell l = Giving l.initial.cells l.cells l.masks (length l.initial.masks) l.cell-index
