@@ -3,13 +3,9 @@ use mathlib.Core.Path.{◌≡◌, refl, sym, ap, ◌∙◌}
 use Prim.Native.Nat.{ℕ, suc, ◌+◌, ◌-◌, ◌≤◌, ◌<◌}
 use native.Mathlib.Omega.{arith}
 use mathlib.Core.List.{List, [], ◌∷◌, ◌++◌}
-use mathlib.Core.Bool.{Bool, true, false, cond, not, ◌&&◌, and_assoc}
-use lib.Dec.{eqb, ltb}
-use borrow.Author.Tests.{eq-eqb, eqb-true, ltb-true, ltb-false}
-use Rattle.std.specs.Prelude.{Option, Some, None, unwrap_or}
-use Rattle.std.specs.List.{position, position_or_len}
+use mathlib.Core.Bool.{Bool, true, ◌&&◌, and_assoc}
 use lib.ListN.{length, take, drop, get_or, length-drop}
-use lib.Seq.{take-suc, take-add, get_or-drop, drop-drop, length-take-le, take_all}
+use lib.Seq.{take-suc, take-add, get_or-drop, drop-drop, length-take-le}
 use Rattle.slices.specs.Split.{piece_at}
 use Rattle.notation.specs.Bytes.{contains}
 use Rattle.plain.specs.Usual.{all_in, carried, Run, Carried}
