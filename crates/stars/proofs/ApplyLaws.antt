@@ -161,26 +161,3 @@ module _ (bytes : List ℕ) (b : Bool) (s : Spine) (k j : ℕ) (tok : Token) {m 
 
   pub by_pair : {c : Bool} → m ≡ Exchange → b ≡ c → (st : State) → column_by (path_token bytes) b s k j tok st ≡ column_by Exchange c s k j tok st
   by_pair q e st = by_token q st ∙ ap (λ (x : Bool). column_by Exchange x s k j tok st) e
-
--- ---- the ways out of the code
-
--- the first tempo
-abbrev anew : Tally → ℕ → Tally
-anew t n = record {
-  active = t.active;
-  parts = t.parts;
-  bars = t.bars;
-  notes = t.notes;
-  notices = t.notices;
-  tempo = n;
-  title = t.title;
-  composer = t.composer;
-  lyricist = t.lyricist;
-  at = t.at;
-}
-
-pub tempo_set : (t : Tally) (bpm : ℕ) → t.tempo ≡ 0 → anew t bpm ≡ with_first t bpm
-tempo_set t bpm e = ap (λ (b : Bool). anew t (cond b bpm t.tempo)) (sym (eq-eqb t.tempo 0 e))
-
-pub tempo_not : (t : Tally) (bpm : ℕ) → (t.tempo ≡ 0 → ⊥) → t ≡ with_first t bpm
-tempo_not t bpm e = ap (λ (b : Bool). anew t (cond b bpm t.tempo)) (sym (ne_eqb t.tempo 0 e))

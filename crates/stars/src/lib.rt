@@ -37,8 +37,7 @@ use voices::{Rows, Stop};
 fn with_first(tally: Tally, bpm: u16) -> Tally
     ensures { result ≡ with_first tally bpm }
 {
-    let first = tally.tempo == 0;
-    if first {
+    if tally.tempo == 0 {
         return Tally {
             tempo: bpm,
             ..tally
@@ -183,7 +182,7 @@ fn answer(step: Result<usize, Stop>, tally: Tally, number: u32) -> Result<Tally,
         }),
         Err(Stop::Voiceless(p)) => Err(Refusal::StaffFull {
             line: number,
-            part: p as usize,
+            part: usize::from(p),
         }),
         Err(Stop::Wide(n)) => Err(Refusal::ManySpines {
             line: number,
