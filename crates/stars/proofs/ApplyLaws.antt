@@ -2,7 +2,7 @@
 use Rattle.std.specs.Prelude.{Ok}
 use mathlib.Core.Path.{◌≡◌, refl, sym, ap, ap₂, ◌∙◌, subst}
 use Prim.Native.Nat.{ℕ, ◌+◌, ◌-◌, ◌≤◌, ◌<◌}
-use mathlib.Core.Bool.{Bool, false, cond}
+use mathlib.Core.Bool.{Bool, false}
 use mathlib.Core.Logic.{◌⊎◌, inl, inr}
 use mathlib.Core.List.{List, []}
 use lib.ListN.{length, take, set, get_or}
@@ -33,8 +33,7 @@ use Rattle.state.proofs.PartLaws.{part_in}
 use Rattle.writing.specs.Kept.{notice_of, kept_records, after_kept}
 use Rattle.writing.proofs.KeptLaws.{notify_told, kept_same}
 use Rattle.tandem.specs.Change.{changed}
-use borrow.Author.Tests.{eq-eqb, ne_eqb}
-use Rattle.stars.specs.Columns.{token_of, with_first, tempoed, Comes}
+use Rattle.stars.specs.Columns.{token_of, tempoed, Comes}
 
 -- ---- a piece of the reading that says the same; one that does nothing; a notice
 

@@ -27,9 +27,6 @@ use Rattle.stars.specs.Columns.{filled, columns_of}
 use Rattle.stars.specs.Next.{stepped}
 use Rattle.stars.proofs.LoopLaws.{path_filled}
 
-pub answer_as : {s x : Answered ℕ Stop} (t : Tally) (k : ℕ) {r : Answered Tally Refusal} → s ≡ x → r ≡ stepped x t k → r ≡ stepped s t k
-answer_as t k e h = h ∙ ap (λ (y : Answered ℕ Stop). stepped y t k) (sym e)
-
 placed_paths : (at : ℕ) (ts : List (List ℕ)) → map (λ (t : Token). path_token t.bytes) (placed at ts) ≡ map path_token ts
 unfolding placed
 placed_paths at [] = refl
