@@ -63,6 +63,7 @@ fn infer(
 }
 
 // One column: spines outside kern and branches are passed over.
+// Stays: `Ready` ties a row to counts that each token changes; a type of both would be made anew at each.
 fn read_column(
     line: TextLine<'_>,
     row: &[u16],
@@ -192,6 +193,7 @@ pub fn read_data(
     let mut agreed = None;
     let mut from = 0;
     let mut index = 0;
+    // Stays: a turn goes on by a stretch of columns and one more, which neither a `for` nor a chain says more plainly.
     loop {
         let s = read_stretch(line, row, parts, t, from, index, out);
         t = with_stretch(t, s);

@@ -8,7 +8,7 @@ ghost use Rattle.place.specs.Taken.{Taken};
 use lines::Kind;
 
 // A text that is no longer than a text may be.
-#[derive(Clone, Copy, Debug)]
+#[derive(Clone, Copy, PartialEq, Eq, Debug)]
 pub struct Text<'a> {
     pub bytes: &'a [u8],
     pub ghost short: { length bytes.now ≤ 67108864 },
@@ -35,7 +35,7 @@ impl<'a> Text<'a> {
 }
 
 // A line of a text without its trailing CRs: what it begins with, its number from 1, and the offset at which it begins.
-#[derive(Clone, Copy, Debug)]
+#[derive(Clone, Copy, PartialEq, Eq, Debug)]
 pub struct TextLine<'a> {
     pub bytes: &'a [u8],
     pub kind: Kind,
@@ -62,7 +62,7 @@ impl<'a> TextLine<'a> {
 }
 
 // A token of a line: its bytes, its line and column from 1, and the offset at which it begins.
-#[derive(Clone, Copy, Debug)]
+#[derive(Clone, Copy, PartialEq, Eq, Debug)]
 pub struct TextToken<'a> {
     pub bytes: &'a [u8],
     pub line: u32,

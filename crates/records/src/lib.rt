@@ -70,6 +70,7 @@ pub fn is_record(kind: Kind) -> bool
 }
 
 // A barline record under the first cells of the row.
+// Stays: `Under` ties a row behind a reference to counts by value, and `Evenly` a line to them, so no type of one of them says it.
 fn bar_of(
     line: TextLine<'_>,
     rows: &Rows,
