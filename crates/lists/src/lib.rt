@@ -39,7 +39,7 @@ pub fn fill_articulations(out: &mut [u8], token: &[u8])
 }
 
 // The articulations of a token, where they fit.
-// Stays: it and `put_signifiers` differ in the scan's count and the function called; one over both would take these two, and say no more.
+// Stays: no plainer: it and `put_signifiers` differ in the count and the function called; one over both would take these two.
 pub fn put_articulations(out: &mut [u8], token: &[u8])
     ensures { out.new ≡ stored out.old (articulation_bytes token.now) }
 {
@@ -67,7 +67,7 @@ pub fn fill_signifiers(out: &mut [u8], token: &[u8])
     let mut sounding = false;
     let mut k = 0;
     let mut i = 0;
-    // Stays: each turn goes past a whole item, so the index is the item's end, which the searches of `items` and `scan` find, and no count.
+    // Stays: no plainer: a turn goes on behind an item, whose end the searches of `items` and `scan` find; an iterator over items would be this loop.
     while i < token.len() {
         let b = token[i];
         if items::is_digit(b) {
@@ -164,7 +164,7 @@ pub fn fill_pitches(out: &mut [u8], token: &[u8])
     let mut sound = None;
     let mut k = 0;
     let mut i = 0;
-    // Stays: each turn goes past a whole item, so the index is the item's end, which the searches of `items` and `scan` find, and no count.
+    // Stays: no plainer: a turn goes on behind an item, whose end the searches of `items` and `scan` find; an iterator over items would be this loop.
     while i < token.len() {
         let b = token[i];
         if items::is_digit(b) {

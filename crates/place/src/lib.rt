@@ -15,14 +15,6 @@ pub struct Text<'a> {
 }
 
 impl<'a> Text<'a> {
-    // Where the next line begins: behind the next LF from `at` on, or one behind the end of the text.
-    pub fn next_line(self, at: usize) -> usize
-        requires { at ≤ length self.bytes.now }
-        ensures { result ≡ piece_end 10 self.entry.bytes.now at + 1 }
-    {
-        lines::line_end(self.bytes, at) + 1
-    }
-
     // The bytes from one index to another, without the CRs at their end.
     pub fn content(self, from: usize, end: usize) -> &'a [u8]
         requires { (from ≤ end) × (end ≤ length self.bytes.now) }
@@ -79,13 +71,13 @@ pub struct Place {
 }
 
 impl Place {
-    // The place moves past a line.
+    // The place moves past a line: behind the next LF, or one behind the end of the text.
     // Stays: a rule of the project: a `&mut` struct for the place, moved by one thin function (docs/DECISIONS.md).
     pub fn advance(&mut self, text: Text<'_>)
         requires { (self.old.at ≤ length text.bytes.now) × (self.old.line < 2 ^ 27) }
         ensures { (self.new.at ≡ piece_end 10 text.entry.bytes.now self.old.at + 1) × (self.new.line ≡ self.old.line + 1) }
     {
-        self.at = text.next_line(self.at);
+        self.at = lines::line_end(text.bytes, self.at) + 1;
         self.line += 1;
     }
 

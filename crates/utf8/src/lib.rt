@@ -112,7 +112,7 @@ fn rows<const N: usize>(s: &[u8], lo: u8, hi: u8, from: usize) -> usize
     ensures { Passed s.now from result }
 {
     let mut i = from;
-    // Stays: no plainer, a step is a character that was seen there.
+    // Stays: no plainer: a turn goes on by the N bytes of a character that was seen; chunks of N would be cut before they are seen.
     while row::<N>(s, lo, hi, i) {
         i += N;
     }
@@ -153,7 +153,7 @@ pub fn utf8_length(s: &[u8]) -> usize
     ensures { (result ≡ utf8_length s.now) × (result ≤ length s.now) }
 {
     let mut i = 0;
-    // Stays: no plainer, a step is a run as long as `onward` finds it.
+    // Stays: no plainer: a turn goes on behind a run, as long as `onward` finds it.
     while i < s.len() {
         let next = onward(s, i);
         if next == i {

@@ -15,8 +15,5 @@ returns-then-n-eq0 c =
 pub slice_bounds-path_token-end : goal.slice_bounds-path_token-end
 slice_bounds-path_token-end c = omega (arith, piece_at_lem c.if-line-from.false c.token_end-end.ensures)
 
-pub overflow_add-result : goal.overflow_add-result
-overflow_add-result c = omega (arith, piece_at_lem c.if-line-from.false c.token_end-end.ensures)
-
 pub returns : goal.returns
 returns c = ahead_here c.if-n-eq0.false (piece_at_lem c.if-line-from.false c.token_end-end.ensures) c.path_token.ensures

@@ -1,7 +1,7 @@
 -- The masks tell the voices of the lines passed.
 use Rattle.std.proofs.Common.{arith, sym, ◌∙◌}
 use Rattle.spines.proofs.CellLaws.{of_line}
-use Rattle.voices.proofs.MaskLaws.{marking_first, marking_line, marking_pass, marking_past}
+use Rattle.voices.proofs.MaskLaws.{marking_first, marking_line, marking_pass}
 use Rattle.voices.proofs.mark.Goals as goal
 use Rattle.voices.proofs.mark.Goals.{in-Line, in_default}
 
@@ -20,6 +20,3 @@ loop-cell-preserved c =
       | in-Line w ↦ rw w.masks-is (marking_line c.loop-cell.invariant c.loop-cell-test.true (sym w.in-Line.ensures) w.place-q.ensures.0 (omega (arith, w.place-q.ensures)) w.with_voice.ensures)
       | in_default w ↦ rw w.masks-is (marking_pass c.loop-cell.invariant c.loop-cell-test.true (λ p v e. w.in_default.not-Line p v (c.spine_of.ensures ∙ e)))
     ]
-
-pub returns : goal.returns
-returns c = marking_past c.loop-cell.invariant (omega arith)
