@@ -28,6 +28,7 @@ use token::outcome::Note;
 use token::scan::Scan;
 
 // Where a token stands: its part and voice, line and column from 1, and its offset in the text.
+// Stays: no plainer: a token and its spot are two, as in the definitions; `Sited` ties both to counts, and a token's length to its offset.
 #[derive(Clone, Copy, PartialEq, Eq, Debug)]
 pub struct Spot {
     pub part: usize,
