@@ -154,6 +154,7 @@ pub fn agreed_reciprocal<'a>(line: &'a [u8], row: &[u16]) -> Option<&'a [u8]>
             return None;
         }
         let end = lines::token_end(line, from);
+        // Stays: no plainer: all that is asked of a cell, here and in the definition, is whether it is outside kern.
         let in_kern = 8 <= *cell;
         if in_kern {
             summary = summary.pass(&line[from..end]);
