@@ -38,7 +38,7 @@ pub fn is_letter(b: u8) -> bool
 }
 
 // The end of the bytes that a test takes, from an index on.
-// Stays: that an index lies in its token, here and below, is a fact of both; a slice from there on would answer other indices than the contracts name.
+// Stays: no plainer: that an index lies in its token is a fact of both; a slice from there on would answer other indices.
 pub fn end_of<F: Fn(u8) -> bool>(token: &[u8], from: usize, takes: F) -> usize
     requires callable { F.IsAlwaysCallable takes }
     requires inside { from ≤ length token.now }

@@ -67,7 +67,7 @@ pub fn fill_signifiers(out: &mut [u8], token: &[u8])
     let mut sounding = false;
     let mut k = 0;
     let mut i = 0;
-    // Stays: no plainer: a turn goes on behind an item, whose end the searches of `items` and `scan` find; an iterator over items would be this loop.
+    // Stays: no plainer: a turn goes on behind an item; `items::next_item` gives digits a value, for which no one asks here.
     while i < token.len() {
         let b = token[i];
         if items::is_digit(b) {
@@ -154,8 +154,7 @@ fn sign(s: Option<Tone>, b: u8) -> Option<Tone>
 }
 
 // The pitches of a token that is no rest, for which there is room.
-// Stays: its walk and that of `fill_signifiers` share the tests of an item's kind alone; one walk over both would take a trait with a
-// method and a contract for each of five kinds, where each walk here has a branch.
+// Stays: no plainer: it shares with `fill_signifiers` the tests of an item's kind alone; one walk would take a trait of five methods.
 #[inline(never)]
 pub fn fill_pitches(out: &mut [u8], token: &[u8])
     requires { (rest_of (items token.now) ≡ false) × (length (pitch_bytes token.now) ≤ length out.old) }
@@ -164,7 +163,7 @@ pub fn fill_pitches(out: &mut [u8], token: &[u8])
     let mut sound = None;
     let mut k = 0;
     let mut i = 0;
-    // Stays: no plainer: a turn goes on behind an item, whose end the searches of `items` and `scan` find; an iterator over items would be this loop.
+    // Stays: no plainer: a turn goes on behind an item; `items::next_item` gives digits a value, for which no one asks here.
     while i < token.len() {
         let b = token[i];
         if items::is_digit(b) {

@@ -92,6 +92,7 @@ fn note_at(n: Note, spot: Spot, bars: u32, beam: u8) -> sheet::Note
 }
 
 // The counts with one note more, whose record ends at a place.
+// Stays: no plainer: as `counted` of writing, which counts notices; one over both would take the field to count in.
 fn with_note(tally: Tally, at: usize) -> Tally
     requires { tally.notes < 100000 }
     ensures { result ≡ with_note tally at }

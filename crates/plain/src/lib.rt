@@ -88,7 +88,7 @@ const SILENT: Tone = Tone {
 };
 
 // The opening marks from an index on.
-// Stays: `from ≤ length` here and below: an index beside its own line; the line from there on would say it by its type, and answer other indices.
+// Stays: no plainer: `from ≤ length` is a fact of an index and its line; a slice from there on would answer other indices.
 fn openings(line: &[u8], from: usize) -> Opening
     requires { from ≤ length line.now }
     ensures { Marking line.now from (opened false false) (opened result.ties result.slurs) result.end }
@@ -177,6 +177,7 @@ fn run_end(line: &[u8], from: usize, b: u8) -> usize
     requires { from ≤ length line.now }
     ensures { Run (b ∷ []) line.now from result }
 {
+    // Stays: an index, and no `position`, as in `slices::find`.
     for i in from..line.len() {
         if line[i] != b {
             return i;

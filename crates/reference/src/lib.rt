@@ -81,7 +81,7 @@ pub fn leading_white(s: &[u8]) -> usize
     ensures { (result ≡ leading_white s.now) × (result ≤ length s.now) }
 {
     let mut i = 0;
-    // Stays: a step is one byte where that is ink or a blank of ASCII, and only else a character; an iterator over characters would decode each.
+    // Stays: no plainer: a turn goes on by a byte, or a character where it is neither ink nor a blank; only the turn knows which.
     while i < s.len() {
         let b = s[i];
         if ink(b) {
@@ -106,7 +106,7 @@ fn last_end(s: &[u8]) -> usize
 {
     let mut end = 0;
     let mut i = 0;
-    // Stays: as in `leading_white`, a step is one byte where that is ink, and only else a character.
+    // Stays: no plainer: as in `leading_white`, a turn goes on by a byte or by a character.
     while i < s.len() {
         if ink(s[i]) {
             i += 1;

@@ -308,7 +308,7 @@ pub fn scan_token(token: &[u8]) -> Scan
         articulations: 0,
     };
     let mut i = 0;
-    // Stays: no plainer: a turn goes on behind a run, whose end a search finds; an iterator over runs would be this loop, and tell their kinds twice.
+    // Stays: no plainer: a turn goes on behind a run, whose end a search finds; an iterator over runs would tell their kinds twice.
     while i < token.len() {
         let b = token[i];
         if items::is_digit(b) {

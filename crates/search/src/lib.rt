@@ -25,7 +25,7 @@ fn lacks<const N: usize>(block: &[u8; N], b: u8) -> bool
 }
 
 // Where the blocks of N bytes without b from `from` on end.
-// Stays: `0 < N` is asked of a const parameter, which no type bounds, and `from ≤ length` of an index beside its own slice.
+// Stays: no plainer: no type bounds a const parameter, so `0 < N` is asked; the index answered is one of s, as the contract names it.
 fn blocks<const N: usize>(s: &[u8], b: u8, from: usize) -> usize
     requires { (0 < N) × (N ≤ 255) × (from ≤ length s.now) }
     ensures { Without b s.now from result }

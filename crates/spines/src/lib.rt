@@ -39,7 +39,7 @@ enum Left {
 }
 
 // What a token gives: how many of two cells, the cells, and what then stands to the left.
-// Stays: no plainer: both cells are written, and the next ones over what is too much, so that no turn tests how many there are.
+// Stays: no plainer: an enum of no, one and two cells would be matched at each turn to do what two plain stores do.
 #[derive(Clone, Copy, Debug, PartialEq, Eq)]
 struct Emission {
     count: usize,

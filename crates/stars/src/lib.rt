@@ -134,7 +134,7 @@ fn exchanges_right(line: &[u8], from: usize, end: usize, n: usize, left: bool) -
 }
 
 // The columns of a star record under a row, as far as the line has tokens.
-// Stays: the tokens by their ends, since a turn asks for the token ahead and for its own offset, which `split` doesn't give.
+// Stays: no plainer: a turn asks for the token ahead too, which may be missing; `split` would be walked twice, one token apart.
 pub fn read_columns(
     line: TextLine,
     row: &[u16],

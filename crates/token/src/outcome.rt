@@ -6,8 +6,7 @@ ghost use Rattle.token.specs.Outcome.{notice_number};
 use notice::Code;
 
 // A note, without its lists, of which the lengths are given; 0, 0 is no tuplet. `inferred` says that its length was.
-// Stays: `actual`, `normal` (0, 0 for no tuplet) and `grace` (0, 1 for Q, 2 for q) are the sheet's own bytes and the definition's own numbers; an
-// option and an enum would be made of them by the scan and turned back into them for each NOTE.
+// Stays: the C interface: `actual`, `normal` and `grace` (0, 1 for Q, 2 for q) are the sheet's bytes and the definition's numbers.
 #[derive(Clone, Copy, PartialEq, Eq, Debug)]
 pub struct Note {
     pub value: u8,

@@ -17,7 +17,7 @@ fn print_bytes(rt: &impl Print, bytes: &[u8]) -> io::Result<()> {
 }
 
 // The flags of a note, as a NOTE has them.
-// Stays: `notes::flags_of` again, which is private to the crate that writes NOTEs, and that stands above all that this program replays.
+// Stays: no plainer: `notes::flags_of` again; as a method of `Note`, its definition would have to move from `reading` to `token`.
 fn flags_of(n: Note) -> u8 {
     u8::from(n.rest)
         + 2 * u8::from(n.ties)

@@ -86,7 +86,7 @@ fn blocks_64(s: &[u8], from: usize) -> usize
     ensures { Passed s.now from result }
 {
     let mut i = from;
-    // Stays: no plainer as a `for` over blocks, which would carry the same i.
+    // Stays: no plainer: `onward` asks `joined` at an index too, so a `for` over blocks would take a second one, over a block.
     while 64 <= s.len() - i {
         if 128 <= joined::<64>(s, i) {
             return i;
@@ -97,7 +97,7 @@ fn blocks_64(s: &[u8], from: usize) -> usize
 }
 
 // Whether a character of N bytes, led by lo..=hi, stands at i.
-// Stays: `0 < N` is asked of a const parameter, which no type bounds, and `from ≤ length` of an index beside its own slice.
+// Stays: no plainer: no type bounds a const parameter, so `0 < N` is asked.
 fn row<const N: usize>(s: &[u8], lo: u8, hi: u8, i: usize) -> bool
     requires { (0 < N) × (N ≤ 4) × (i ≤ length s.now) }
     ensures { result ≡ begins ((lo, hi) ∷ tails (N - 1)) (drop i s.now) }

@@ -11,6 +11,7 @@ ghost use Rattle.voices.specs.Outcome.{given_of, outcome_of, active_after};
 use paths::Spine;
 
 // Whether a voice is held.
+// Stays: a rule of the project: a mask for each part, set and tested by shifts; the lowest clear bit is the voice (docs/DECISIONS.md).
 fn taken(mask: u8, voice: u8) -> bool
     requires { voice < 4 }
     ensures { result ≡ bit mask voice }
@@ -34,6 +35,7 @@ fn lowest_free(mask: u8) -> Option<u8>
 }
 
 // Where the mask of a cell's part stands.
+// Stays: fixed memory, as at `spines::spine_of`: the masks stand by the cell's own number of its part.
 fn place(cell: u16) -> usize
     ensures { (result ≡ cell / 8) × (result < 8192) }
 {

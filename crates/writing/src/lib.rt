@@ -55,7 +55,7 @@ fn write_signified(out: &mut [u8], at: usize, notice: Notice, token: &[u8], coun
 }
 
 // The pitches of a token behind its NOTE, where there are any: the one that it has, if that is known. Inlined, as are the two that call it:
-// the pass that measures then makes no record (a chorale takes 175 instructions a byte, and 214 where they are calls).
+// the pass that measures then makes no record (a chorale took 188 instructions a byte then, and 214 where they are calls).
 // Stays: what is asked of `alone` and of the counts is asked of each of the three; a struct of a note and its token would be made for one call.
 #[inline(always)]
 fn add_pitches(out: &mut [u8], token: &[u8], alone: Option<Tone>, count: usize)
