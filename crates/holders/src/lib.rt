@@ -1,7 +1,7 @@
 #![tactic(auto)]
 
 // Which lines of a part fill its staff where a record splits one more: the columns that carry a line on, then the branches.
-ghost use Rattle.std.specs.Prelude.{◌≡◌, [], map, ◌&&◌, false, length};
+ghost use Rattle.std.specs.Prelude.{◌≡◌, ℕ, ◌<◌, [], map, ◌&&◌, false, length, Some};
 ghost use Rattle.lines.specs.Tokens.{tokens_of, is_kern};
 ghost use Rattle.spines.specs.Cells.{spine_of, row_of};
 ghost use Rattle.spines.specs.Tokens.{record_tokens};
@@ -101,7 +101,8 @@ pub fn holders_of(line: &[u8], row: &[u16], part: usize, header: usize) -> Holde
 
 // The column, from 1, of the header's token that is `**kern` with so many before it.
 pub fn kern_column(line: &[u8], part: usize) -> Option<usize>
-    ensures { or_zero result ≡ kern_column 0 part (map is_kern (tokens_of line.now)) }
+    ensures number { or_zero result ≡ kern_column 0 part (map is_kern (tokens_of line.now)) }
+    ensures column { (c : ℕ) → result ≡ Some c → 0 < c }
 {
     let tokens = line.split(|b| *b == b'\t').enumerate();
     let (before, _) = tokens.filter(|(_, token)| lines::is_kern(token)).nth(part)?;

@@ -1,7 +1,7 @@
 #![tactic(auto)]
 
 // Reads a text as `reader::read` does, and says of one that is refused with 8 which lines fill the staff.
-ghost use Rattle.std.specs.Prelude.{◌≡◌, ℕ, ◌-◌, ◌≤◌, ◌<◌, ◌^◌, false, [], take};
+ghost use Rattle.std.specs.Prelude.{◌≡◌, ℕ, ◌-◌, ◌≤◌, ◌<◌, ◌^◌, false, [], take, Some};
 ghost use Rattle.lines.specs.Lines.{lines_of, without_crs};
 ghost use Rattle.spines.specs.Cells.{row_of};
 ghost use Rattle.holders.specs.Holders.{Five};
@@ -75,7 +75,8 @@ fn row_before(text: &[u8], k: usize, rows: &mut Rows) -> usize
 
 // The header column of a part, from 1.
 fn header_column(text: &[u8], part: usize) -> Option<usize>
-    ensures { or_zero result ≡ kern_column 0 part (header_of text.now) }
+    ensures number { or_zero result ≡ kern_column 0 part (header_of text.now) }
+    ensures column { (c : ℕ) → result ≡ Some c → 0 < c }
 {
     let mut lines = text.split(|b| *b == b'\n').map(bare);
     let header = lines.find(|line| records::is_record(lines::line_kind(line)))?;

@@ -11,16 +11,16 @@ use Rattle.holders.specs.Walk.{or_zero}
 use Rattle.holders.proofs.PassLaws.{kern_found}
 use Rattle.holders.proofs.kern_column.Goals as goal
 
-pub returns-in_err-before : goal.returns-in_err-before
-returns-in_err-before c =
+pub returns-in_err-before-clause-number : goal.returns-in_err-before-clause-number
+returns-in_err-before-clause-number c =
     let n = nth_from_yields_List c.nth.result _ c.args.part c.nth.ensures.ran
     (YieldsList-from_filter _ (λ (p : ℕ × List ℕ). is_kern p.1)
     (YieldsList-at c.filter.ensures.source (YieldsList-from_enumerate (YieldsList-at c.enumerate-tokens.ensures.source (YieldsList-from_tokens _ c.args.line.now (cc) (cc) (cc) (λ x b q k. search (rules, tests)))) (cc)))
     (cc) (λ x b q k. search (rules, tests))) in
     ap or_zero c.from_residual.ensures ∙ kern_found _ c.args.part (tokens_of c.args.line.now) None c.in_err-before.was n
 
-pub returns : goal.returns
-returns c =
+pub returns-clause-number : goal.returns-clause-number
+returns-clause-number c =
     let n = nth_from_yields_List c.nth.result _ c.args.part c.nth.ensures.ran
     (YieldsList-from_filter _ (λ (p : ℕ × List ℕ). is_kern p.1)
     (YieldsList-at c.filter.ensures.source (YieldsList-from_enumerate (YieldsList-at c.enumerate-tokens.ensures.source (YieldsList-from_tokens _ c.args.line.now (cc) (cc) (cc) (λ x b q k. search (rules, tests)))) (cc)))
