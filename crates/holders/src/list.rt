@@ -13,10 +13,10 @@ pub struct Holder {
 // At most five of them: the first `count`. What stands behind them says nothing, so two lists are not compared.
 #[derive(Clone, Copy, Debug)]
 pub struct Holders {
-    count: usize,
-    list: [Holder; 5],
-    ghost few: { count ≤ 5 },
-    ghost room: { length list ≡ 5 },
+    pub count: usize,
+    pub list: [Holder; 5],
+    pub ghost few: { count ≤ 5 },
+    pub ghost room: { length list ≡ 5 },
 }
 
 impl Holders {
