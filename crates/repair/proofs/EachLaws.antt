@@ -1,17 +1,18 @@
 -- Chains over a line's tokens: a test of each; and what the line's first byte says of its first token.
 use mathlib.Core.Path.{◌≡◌, refl, sym, ap, ◌∙◌}
-use Prim.Native.Nat.{ℕ}
+use Prim.Native.Nat.{ℕ, zero, suc, ◌+◌, ◌-◌, ◌≤◌, ◌<◌}
 use native.Mathlib.Omega.{arith}
+use native.Mathlib.Numerals.{unary_clauses}
 use mathlib.Core.List.{List, [], ◌∷◌, head_d}
 use mathlib.Core.Bool.{Bool, true, false, ◌&&◌}
 use lib.Dec.{eqb}
-use lib.ListN.{length, take, get_or}
+use lib.ListN.{length, take, drop, get_or, drop_of_length-le}
 use borrow.Author.Tests.{eq-eqb, ne_eqb, eqb-true}
 use Rattle.slices.specs.Split.{join, split, index_of}
-use Rattle.slices.specs.Compare.{begins_with}
-use Rattle.slices.proofs.SplitLaws.{first_piece}
+use Rattle.slices.specs.Compare.{begins_with, same_bytes}
+use Rattle.slices.proofs.SplitLaws.{first_piece, at_index}
 use Rattle.lines.specs.Lines.{piece_end}
-use Rattle.lines.specs.Tokens.{tokens_of, is_star}
+use Rattle.lines.specs.Tokens.{tokens_of, is_star, is_empty}
 use Rattle.std.specs.List.{list_all}
 use denote.Enum.Bare.{sameb}
 use Rattle.paths.specs.contracts.PathToken.{the_type}
@@ -85,3 +86,46 @@ not_ordinary line e =
 pub not_bars : (ts : List (List ℕ)) → is_bar (first_of ts) ≡ false → identical_bars ts ≡ false
 unfolding identical_bars
 not_bars ts e = rw e
+
+-- ---- a pass over a line's bytes: what decides is the tokens from i on, behind the first n of them
+tab_turn : (n : ℕ) (ts : List (List ℕ)) → each is_empty (drop n ([] ∷ ts)) ≡ each is_empty (drop (n - 1) ts)
+unfolding each is_empty same_bytes
+tab_turn zero ts = refl
+tab_turn (suc n) ts = simp unary_clauses refl
+
+byte_turn : (n x : ℕ) (ps : List (List ℕ)) → (n ≡ 0 → ⊥) → each is_empty (drop n (join false x ps)) ≡ each is_empty (drop n ps)
+unfolding join
+byte_turn zero x ps some = absurd (some refl)
+byte_turn (suc zero) x [] some = refl
+byte_turn (suc (suc n)) x [] some = refl
+byte_turn (suc n) x (p ∷ ps) some = refl
+
+byte_stop : (x : ℕ) (ps : List (List ℕ)) → each is_empty (join false x ps) ≡ false
+unfolding join each is_empty same_bytes
+byte_stop x [] = refl
+byte_stop x (p ∷ ps) = refl
+
+none_left : (n : ℕ) → each is_empty (drop n ([] ∷ [])) ≡ true
+unfolding each is_empty same_bytes
+none_left zero = refl
+none_left (suc zero) = refl
+none_left (suc (suc n)) = refl
+
+pub blank_tab : {b : Bool} (s : List ℕ) (i n m : ℕ) → i < length s → get_or s i 0 ≡ 9 → m ≡ n - 1
+    → b ≡ each is_empty (drop n (tokens_of (drop i s))) → b ≡ each is_empty (drop m (tokens_of (drop (i + 1) s)))
+unfolding split join
+blank_tab s i n m h tab less e = rw (less) (rw (at_index s i h, tab) at e ∙ tab_turn n (tokens_of (drop (i + 1) s)))
+
+pub blank_byte : {b : Bool} (s : List ℕ) (i n : ℕ) → i < length s → (get_or s i 0 ≡ 9 → ⊥) → (n ≡ 0 → ⊥)
+    → b ≡ each is_empty (drop n (tokens_of (drop i s))) → b ≡ each is_empty (drop n (tokens_of (drop (i + 1) s)))
+unfolding split
+blank_byte s i n h other some e = rw (at_index s i h, ne_eqb (get_or s i 0) 9 other) at e ∙ byte_turn n (get_or s i 0) (tokens_of (drop (i + 1) s)) some
+
+pub blank_stop : {b : Bool} (s : List ℕ) (i n : ℕ) → i < length s → (get_or s i 0 ≡ 9 → ⊥) → n ≡ 0
+    → b ≡ each is_empty (drop n (tokens_of (drop i s))) → b ≡ false
+unfolding split
+blank_stop s i n h other none e = rw (none, at_index s i h, ne_eqb (get_or s i 0) 9 other) at e ∙ byte_stop (get_or s i 0) (tokens_of (drop (i + 1) s))
+
+pub blank_end : {b : Bool} (s : List ℕ) (i n : ℕ) → length s ≤ i → b ≡ each is_empty (drop n (tokens_of (drop i s))) → b ≡ true
+unfolding split
+blank_end s i n h e = rw (drop_of_length-le s {i = i} h) at e ∙ none_left n

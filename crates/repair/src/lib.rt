@@ -28,7 +28,15 @@ pub enum Unrepaired {
 fn blank(line: &[u8], k: usize) -> bool
     ensures { result ≡ each is_empty (drop k (tokens_of line.now)) }
 {
-    line.split(|b| *b == b'\t').skip(k).all(lines::is_empty)
+    let mut left = k;
+    for b in line {
+        if *b == b'\t' {
+            left = left.saturating_sub(1);
+        } else if left == 0 {
+            return false;
+        }
+    }
+    true
 }
 
 // Whether the line begins `*` and one of its first k tokens doesn't.
