@@ -16,7 +16,8 @@ pub enum Kind {
     Data,
 }
 
-// The length of a line without its trailing CRs.
+// The length of a line without its trailing CRs. A call: inlined, its loop takes registers of the reader's.
+#[inline(never)]
 pub fn content(line: &[u8]) -> usize
     ensures { (result ≡ length (without_crs line.now)) × (result ≤ length line.now) }
 {

@@ -1,8 +1,8 @@
 -- The end of a text: an ASCII byte behind it is a character of its own.
-use mathlib.Core.Path.{◌≡◌, refl, sym, ap, subst, ◌∙◌}
+use mathlib.Core.Path.{◌≡◌, refl, sym, ap, ◌∙◌}
 use mathlib.Core.Bool.{Bool, true, false, cond, ◌&&◌}
 use mathlib.Core.List.{List, [], ◌∷◌, ◌++◌}
-use Prim.Native.Nat.{ℕ, zero, suc, ◌+◌, ◌-◌, ◌≤◌, ◌<◌}
+use Prim.Native.Nat.{ℕ, ◌+◌, ◌-◌, ◌≤◌, ◌<◌}
 use native.Mathlib.Nat.{not-suc-le-zero}
 use native.Mathlib.Omega.{arith}
 use lib.Dec.{T, leb, eqb, leb→le}
@@ -131,28 +131,10 @@ module _ {s : List ℕ} {n : ℕ} (inv : Ending s n) where
   pub ending_past : n ≤ 0 → (0 ≡ trimmed_end s) × (0 ≤ length s)
   ending_past h = (sym (inv.same ∙ end_none (take n s) (omega (arith, length-take-le n s inv.high))), omega arith)
 
--- white ASCII bytes from n on
-abbrev pub Spaces : List ℕ → ℕ → Type 0
-Spaces s n = (k : ℕ) → n ≤ k → k < length s → (white (get_or s k 0) ≡ true) × (get_or s k 0 < 128)
+-- the same where the index is one before n
+module _ {s : List ℕ} {n : ℕ} (inv : Ending s n) (h : 0 < n) where
+  pub ending_here : (32 < get_or s (n - 1) 0) × (get_or s (n - 1) 0 < 128) → (n - 1 + 1 ≡ trimmed_end s) × (n - 1 + 1 ≤ length s)
+  ending_here e = let z : n - 1 + 1 ≡ n = omega (arith, h) in rw z (ending_done inv h e.0 e.1)
 
-pub ending_run : (s : List ℕ) (n m : ℕ) → n + m ≡ length s → Spaces s n → Ending s n
-ending_run s n zero e h = let z : length s ≡ n = omega arith in subst (λ (k : ℕ). Ending s k) z ending_first
-ending_run s n (suc m) e h =
-    let z : n + 1 - 1 ≡ n = omega arith in
-    let inv : Ending s (n + 1) = ending_run s (n + 1) m (omega arith) (λ k l. h k (omega arith)) in
-    let w : _ = h n (omega arith) (omega arith) in
-    subst (λ (k : ℕ). Ending s k) z (ending_turn inv (omega arith) (rw z w.0) (rw z w.1))
-
--- the last byte that is no such one
-module _ (s : List ℕ) (i : ℕ) (high : i < length s) (h : (k : ℕ) → i < k → k < length s → (white (get_or s k 0) ≡ true) × (get_or s k 0 < 128)) where
-  behind : Ending s (i + 1)
-  behind = ending_run s (i + 1) (length s - (i + 1)) (omega arith) (λ k l. h k (omega arith))
-
-  pub last_ink : (32 < get_or s i 0) × (get_or s i 0 < 128) → (i + 1 ≡ trimmed_end s) × (i + 1 ≤ length s)
-  last_ink e = let z : i + 1 - 1 ≡ i = omega arith in ending_done behind (omega arith) (rw z e.0) (rw z e.1)
-
-  pub last_else : {r : ℕ} → (r ≡ trimmed_end (take (i + 1) s)) × (r ≤ length (take (i + 1) s)) → (r ≡ trimmed_end s) × (r ≤ length s)
-  last_else = ending_rest behind
-
-pub all_spaces : (s : List ℕ) → ((k : ℕ) → k < length s → (white (get_or s k 0) ≡ true) × (get_or s k 0 < 128)) → (0 ≡ trimmed_end s) × (0 ≤ length s)
-all_spaces s h = ending_past (ending_run s 0 (length s) (omega arith) (λ k l. h k)) (omega arith)
+  pub ending_cut : {r : ℕ} → (r ≡ trimmed_end (take (n - 1 + 1) s)) × (r ≤ length (take (n - 1 + 1) s)) → (r ≡ trimmed_end s) × (r ≤ length s)
+  ending_cut q = let z : n - 1 + 1 ≡ n = omega (arith, h) in ending_rest inv (rw z at q)

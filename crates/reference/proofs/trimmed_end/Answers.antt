@@ -1,37 +1,19 @@
--- `trimmed_end`: what stands behind the last byte that is no white ASCII character is white.
-use mathlib.Core.Path.{◌≡◌}
-use mathlib.Core.Bool.{true}
-use mathlib.Core.List.{List}
-use Prim.Native.Nat.{ℕ, ◌<◌}
-use Rattle.std.proofs.Common.{Option}
-use lib.ListN.{length, get_or}
-use borrow.Author.Rules.{rules}
-use borrow.Author.Tests.{tests}
-use Rattle.std.specs.Option.{MatchOption}
-use Rattle.reference.specs.Trim.{white}
-use Rattle.reference.proofs.EndLaws.{all_spaces, last_ink, last_else}
+-- `trimmed_end`: what stands from the index on is white.
+use native.Mathlib.Omega.{arith}
+use Rattle.reference.proofs.EndLaws.{ending_first, ending_turn, ending_here, ending_cut, ending_past}
 use Rattle.reference.proofs.trimmed_end.Goals as goal
 
-abbrev spaces : List ℕ → Option ℕ → Type 0
-spaces s r = MatchOption r ((k : ℕ) → k < length s → (white (get_or s k 0) ≡ true) × (get_or s k 0 < 128))
-    (λ i. (i < length s) × ((k : ℕ) → i < k → k < length s → (white (get_or s k 0) ≡ true) × (get_or s k 0 < 128)))
+pub loop-i-init : goal.loop-i-init
+loop-i-init c = ending_first
 
-pub returns-in-None : goal.returns-in-None
-returns-in-None c =
-    let s = c.args.s.now in
-    let e : spaces s c.rposition.result = search (rules, tests) in
-    all_spaces s (rw c.in-None.is at e)
+pub returns-then-ink : goal.returns-then-ink
+returns-then-ink c = ending_here c.loop-i.invariant c.loop-i-test.true (c.ink.ensures c.if-ink.true)
 
-pub returns-in-Some : goal.returns-in-Some
-returns-in-Some c =
-    let s = c.args.s.now in
-    let e : spaces s c.rposition.result = search (rules, tests) in
-    let f = rw c.in-Some.is at e in
-    last_ink s c.in-Some.last f.0 f.1 (c.ink.ensures c.if-ink.true)
+pub returns-then-not-space : goal.returns-then-not-space
+returns-then-not-space c = ending_cut c.loop-i.invariant c.loop-i-test.true c.last_end.ensures
 
-pub returns-in-Some-2 : goal.returns-in-Some-2
-returns-in-Some-2 c =
-    let s = c.args.s.now in
-    let e : spaces s c.rposition.result = search (rules, tests) in
-    let f = rw c.in-Some.is at e in
-    last_else s c.in-Some.last f.0 f.1 c.last_end.ensures
+pub loop-i-preserved : goal.loop-i-preserved
+loop-i-preserved c = ending_turn c.loop-i.invariant c.loop-i-test.true (c.space.ensures c.if-not-space.false).0 (c.space.ensures c.if-not-space.false).1
+
+pub returns : goal.returns
+returns c = ending_past c.loop-i.invariant (omega (arith, c.loop-i-test.false))
