@@ -88,12 +88,12 @@ module _ {st : State} (is js : List Item) where
 
 -- ---- the columns of a row
 
--- each column is what the text says of it: a line of its part, one of m parts; or outside kern
-module _ (partAt-text : ℕ → Option ℕ) (m : ℕ) where
+-- each column is what the text says of it: a line of its part, one of m parts, with its voice; or outside kern
+module _ (part_at_text : ℕ → Option ℕ) (voice_at_text : ℕ → ℕ) (m : ℕ) where
   abbrev pub Column : ℕ → Spine → Type 0
-  Column i (Line p v) = (partAt-text i ≡ some p) × (p < m)
+  Column i (Line p v) = (part_at_text i ≡ some p) × (p < m) × (voice_at_text i ≡ v)
   Column i (Branch p) = ⊥
-  Column i Outside = partAt-text i ≡ none
+  Column i Outside = part_at_text i ≡ none
 
   abbrev pub Columns : ℕ → List Spine → Type 0
   Columns i [] = Unit {0}
@@ -107,11 +107,12 @@ set_sounds [] p x e l = absurd (omega arith)
 set_sounds (q ∷ ps) zero x e l = rw e
 set_sounds (q ∷ ps) (suc p) x e l = rw (set_sounds ps p x e (omega arith)) (or_true q.noted)
 
-module _ (partAt-text : ℕ → Option ℕ) (all : List (List ℕ)) (kern : List Bool) (k bar : ℕ) where
-  abbrev item_at : ℕ → ℕ → Spine → List ℕ → Item
-  item_at p j s t = item_of partAt-text all kern k bar p j s t
+module _ (part_at_text : ℕ → Option ℕ) (voice_at_text : ℕ → ℕ) (all : List (List ℕ)) (kern : List Bool) (k bar : ℕ) where
+  abbrev item_at : ℕ → ℕ → List ℕ → Item
+  item_at p j t = item_of part_at_text voice_at_text all kern k bar p j t
 
-  module _ (p v i : ℕ) (t : Token) where
+  -- a token in a column whose voice is v, as the text says
+  module _ (p v i : ℕ) (t : Token) (said : voice_at_text i ≡ v) where
     note_length_lem : (n : Note) → read_token t.bytes (inferred_of all kern i t.bytes) ≡ Ok (Some n)
         → SameLength (note_length n.value n.dots n.actual n.normal (eqb (flags_of n / 32 % 2) 1)) (account_length t.bytes (inferred_of all kern i t.bytes))
     note_length_lem n e = rw (grace_bit n) (length_agrees t.bytes (inferred_of all kern i t.bytes) n e)
@@ -120,12 +121,12 @@ module _ (partAt-text : ℕ → Option ℕ) (all : List (List ℕ)) (kern : List
         → Adds st (record {
           state = with_notes (with_part st p (sounded (part_at st p) v t.bytes)) (st.notes + 1);
           records = note_record p v k (i + 1) t.bytes n st ∷ [];
-        }) (item_at p i (Line p v) t.bytes ∷ [])
+        }) (item_at p i t.bytes ∷ [])
     unfolding notes_of note_record played_length
     note_adds n st e b l = record {
-      agree = one_more {i = item_at p i (Line p v) t.bytes} (record {
+      agree = one_more {i = item_at p i t.bytes} (record {
         part = refl;
-        voice = refl;
+        voice = sym said;
         bar = b;
         line = refl;
         column = refl;
@@ -141,7 +142,7 @@ module _ (partAt-text : ℕ → Option ℕ) (all : List (List ℕ)) (kern : List
 
     -- "20 inferred", and "at most the 100,000th"
     add_adds : (n : Note) (st : State) → read_token t.bytes (inferred_of all kern i t.bytes) ≡ Ok (Some n) → st.bars + 1 ≡ bar → p < length st.parts
-        → StepAdds st (add_note p v k (i + 1) t n st) (item_at p i (Line p v) t.bytes ∷ [])
+        → StepAdds st (add_note p v k (i + 1) t n st) (item_at p i t.bytes ∷ [])
     unfolding add_note
     add_adds n st e b l = go (ltb st.notes 100000) (cond n.inferred (notify 20 k (i + 1) (span_of_token t) st) (quiet st)) (first n.inferred)
       where
@@ -158,12 +159,12 @@ module _ (partAt-text : ℕ → Option ℕ) (all : List (List ℕ)) (kern : List
               records = note_record p v k (i + 1) t.bytes n s ∷ [];
             })))
             (refused 10 k 0))
-            (item_at p i (Line p v) t.bytes ∷ [])
+            (item_at p i t.bytes ∷ [])
         go true r a = then_adds a (note_adds n r.state e (ap (λ (m : ℕ). m + 1) a.bars ∙ b) (subst (λ (m : ℕ). p < m) (sym a.size) l))
         go false r a = tt
 
     outcome_adds : (o : Outcome) (st : State) → read_token t.bytes (inferred_of all kern i t.bytes) ≡ o → st.bars + 1 ≡ bar → p < length st.parts
-        → StepAdds st (by_outcome o p v k (i + 1) t st) (cond (is_heard o) (item_at p i (Line p v) t.bytes ∷ []) [])
+        → StepAdds st (by_outcome o p v k (i + 1) t st) (cond (is_heard o) (item_at p i t.bytes ∷ []) [])
     outcome_adds (Ok None) st e b l = quiet_adds st
     outcome_adds (Err why) st e b l = notify_adds (notice_number why) k (i + 1) (span_of_token t) st
     outcome_adds (Ok (Some n)) st e b l = add_adds n st e b l
@@ -173,7 +174,7 @@ module _ (partAt-text : ℕ → Option ℕ) (all : List (List ℕ)) (kern : List
     signify_adds (x ∷ bytes) st = signifiers_adds k (i + 1) (x ∷ bytes) st
 
     token_adds : (st : State) → st.bars + 1 ≡ bar → p < length st.parts
-        → StepAdds st (read_token_at all kern p v k i t st) (item_in partAt-text all kern k bar (some p) i (Line p v) t.bytes)
+        → StepAdds st (read_token_at all kern p v k i t st) (item_in part_at_text voice_at_text all kern k bar (some p) i t.bytes)
     unfolding read_token_at inferred_for inferred_of
     token_adds st b l = go (is_null t.bytes)
       where
@@ -186,27 +187,27 @@ module _ (partAt-text : ℕ → Option ℕ) (all : List (List ℕ)) (kern : List
         a : Adds st r []
         a = signify_adds (reported t.bytes) st
 
-        spoken : StepAdds r.state (by_outcome (read_token t.bytes inferred) p v k (i + 1) t r.state) (cond (is_note t.bytes inferred) (item_at p i (Line p v) t.bytes ∷ []) [])
+        spoken : StepAdds r.state (by_outcome (read_token t.bytes inferred) p v k (i + 1) t r.state) (cond (is_note t.bytes inferred) (item_at p i t.bytes ∷ []) [])
         spoken = rw (← note_agrees t.bytes inferred)
             (outcome_adds (read_token t.bytes inferred) r.state refl (ap (λ (m : ℕ). m + 1) a.bars ∙ b) (subst (λ (m : ℕ). p < m) (sym a.size) l))
 
         go : (x : Bool) → StepAdds st (cond x (goes (quiet st)) (behind r (by_outcome (read_token t.bytes inferred) p v k (i + 1) t)))
-            (cond x [] (cond (is_note t.bytes inferred) (item_at p i (Line p v) t.bytes ∷ []) []))
+            (cond x [] (cond (is_note t.bytes inferred) (item_at p i t.bytes ∷ []) []))
         go true = quiet_adds st
         go false = behind_adds [] _ r (by_outcome (read_token t.bytes inferred) p v k (i + 1) t) a spoken
 
   -- ---- the columns
 
-  spine_adds : (s : Spine) (i : ℕ) (t : Token) (st : State) → st.bars + 1 ≡ bar → Column partAt-text (length st.parts) i s
-      → StepAdds st (read_spine s all kern k i t st) (item_in partAt-text all kern k bar (partAt-text i) i s t.bytes)
-  spine_adds (Line p v) i t st b (e, l) = rw e (token_adds p v i t st b l)
+  spine_adds : (s : Spine) (i : ℕ) (t : Token) (st : State) → st.bars + 1 ≡ bar → Column part_at_text voice_at_text (length st.parts) i s
+      → StepAdds st (read_spine s all kern k i t st) (item_in part_at_text voice_at_text all kern k bar (part_at_text i) i t.bytes)
+  spine_adds (Line p v) i t st b (e, l, said) = rw e (token_adds p v i t said st b l)
   spine_adds (Branch p) i t st b c = absurd c
   spine_adds Outside i t st b c = rw c (quiet_adds st)
 
-  pub tokens_add : (i : ℕ) (row : List Spine) (ts : List Token) (st : State) → st.bars + 1 ≡ bar → Columns partAt-text (length st.parts) i row
-      → StepAdds st (read_tokens all kern k i row ts st) (items_from partAt-text all kern k bar i row (map (λ (t : Token). t.bytes) ts))
+  pub tokens_add : (i : ℕ) (row : List Spine) (ts : List Token) (st : State) → st.bars + 1 ≡ bar → Columns part_at_text voice_at_text (length st.parts) i row
+      → StepAdds st (read_tokens all kern k i row ts st) (items_from part_at_text voice_at_text all kern k bar i row (map (λ (t : Token). t.bytes) ts))
   unfolding read_tokens items_from
   tokens_add i [] ts st b c = quiet_adds st
   tokens_add i (s ∷ row) [] st b c = quiet_adds st
   tokens_add i (s ∷ row) (t ∷ ts) st b (c, cs) = then_step _ _ (read_spine s all kern k i t st) (read_tokens all kern k (suc i) row ts) (spine_adds s i t st b c)
-      (λ r a. tokens_add (suc i) row ts r.state (ap (λ (m : ℕ). m + 1) a.bars ∙ b) (subst (λ (m : ℕ). Columns partAt-text m (suc i) row) (sym a.size) cs))
+      (λ r a. tokens_add (suc i) row ts r.state (ap (λ (m : ℕ). m + 1) a.bars ∙ b) (subst (λ (m : ℕ). Columns part_at_text voice_at_text m (suc i) row) (sym a.size) cs))

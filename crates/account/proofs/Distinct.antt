@@ -20,6 +20,7 @@ use Rattle.paths.specs.declared.Spine.{Spine}
 use Rattle.paths.specs.declared.Spine.TheVariants.{Line, Branch, Outside}
 use Rattle.paths.specs.Text.{header_row, reading, read_to}
 use Rattle.paths.specs.Trace.{part, columns}
+use Rattle.paths.specs.TracedVoice.{voice}
 use Rattle.paths.specs.Voices.{Outcome, next, mixed, voiceless, wide}
 use Rattle.paths.proofs.Demand.{demand}
 use Rattle.repair.specs.Repair.{repaired, Repaired, repaired_of}
@@ -51,37 +52,37 @@ shares_append a (x ∷ xs) ys (d, n) m = (d, shares_append a xs ys n m)
 abbrev Differ : List Spine → Type 0
 Differ row = (i j p v w : ℕ) → i ≢ j → spine_at row i ≡ Line p v → spine_at row j ≡ Line p w → v ≢ w
 
-module _ (partAt-text : ℕ → Option ℕ) (all : List (List ℕ)) (kern : List Bool) (k bar m : ℕ) where
+module _ (part_at_text : ℕ → Option ℕ) (voice_at_text : ℕ → ℕ) (all : List (List ℕ)) (kern : List Bool) (k bar m : ℕ) where
   -- an item with a part and a voice that no line of the row has
-  avoids : (a : Item) (j : ℕ) (row : List Spine) (ts : List (List ℕ)) → ((i : ℕ) → spine_at row i ≢ Line a.part a.voice) → Columns partAt-text m j row
-      → SharesNone a (items_from partAt-text all kern k bar j row ts)
+  avoids : (a : Item) (j : ℕ) (row : List Spine) (ts : List (List ℕ)) → ((i : ℕ) → spine_at row i ≢ Line a.part a.voice) → Columns part_at_text voice_at_text m j row
+      → SharesNone a (items_from part_at_text voice_at_text all kern k bar j row ts)
   unfolding items_from
   avoids a j [] ts d c = tt
   avoids a j (s ∷ row) [] d c = tt
-  avoids a j (Line p v ∷ row) (t ∷ ts) d ((e, l), cs) = rw e (go (is_null t) (is_note t (inferred_of all kern j t)) (avoids a (suc j) row ts (λ i. d (suc i)) cs))
+  avoids a j (Line p v ∷ row) (t ∷ ts) d ((e, l, said), cs) = rw e (go (is_null t) (is_note t (inferred_of all kern j t)) (avoids a (suc j) row ts (λ i. d (suc i)) cs))
     where
-      go : (x y : Bool) → SharesNone a (items_from partAt-text all kern k bar (suc j) row ts)
-          → SharesNone a (cond x [] (cond y (item_of partAt-text all kern k bar p j (Line p v) t ∷ []) []) ++ items_from partAt-text all kern k bar (suc j) row ts)
+      go : (x y : Bool) → SharesNone a (items_from part_at_text voice_at_text all kern k bar (suc j) row ts)
+          → SharesNone a (cond x [] (cond y (item_of part_at_text voice_at_text all kern k bar p j t ∷ []) []) ++ items_from part_at_text voice_at_text all kern k bar (suc j) row ts)
       go true y n = n
-      go false true n = (λ s. d 0 (rw (s.1, s.2)), n)
+      go false true n = (λ s. d 0 (rw (s.1, s.2, said)), n)
       go false false n = n
   avoids a j (Branch p ∷ row) (t ∷ ts) d (c, cs) = absurd c
   avoids a j (Outside ∷ row) (t ∷ ts) d (c, cs) = rw c (avoids a (suc j) row ts (λ i. d (suc i)) cs)
 
   -- the items of a record
-  record_distinct : (j : ℕ) (row : List Spine) (ts : List (List ℕ)) → Differ row → Columns partAt-text m j row → Distinct (items_from partAt-text all kern k bar j row ts)
+  record_distinct : (j : ℕ) (row : List Spine) (ts : List (List ℕ)) → Differ row → Columns part_at_text voice_at_text m j row → Distinct (items_from part_at_text voice_at_text all kern k bar j row ts)
   unfolding items_from
   record_distinct j [] ts d c = tt
   record_distinct j (s ∷ row) [] d c = tt
-  record_distinct j (Line p v ∷ row) (t ∷ ts) d ((e, l), cs) =
+  record_distinct j (Line p v ∷ row) (t ∷ ts) d ((e, l, said), cs) =
       rw e (go (is_null t) (is_note t (inferred_of all kern j t)) (record_distinct (suc j) row ts (λ i i' p v w n. d (suc i) (suc i') p v w (λ x. n (omega arith))) cs))
     where
       first : Item
-      first = item_of partAt-text all kern k bar p j (Line p v) t
+      first = item_of part_at_text voice_at_text all kern k bar p j t
 
-      go : (x y : Bool) → Distinct (items_from partAt-text all kern k bar (suc j) row ts) → Distinct (cond x [] (cond y (first ∷ []) []) ++ items_from partAt-text all kern k bar (suc j) row ts)
+      go : (x y : Bool) → Distinct (items_from part_at_text voice_at_text all kern k bar (suc j) row ts) → Distinct (cond x [] (cond y (first ∷ []) []) ++ items_from part_at_text voice_at_text all kern k bar (suc j) row ts)
       go true y ds = ds
-      go false true ds = (avoids first (suc j) row ts (λ i e. d 0 (suc i) p v v (λ x. omega arith) refl e refl) cs, ds)
+      go false true ds = (avoids first (suc j) row ts (λ i x. d 0 (suc i) p v (voice_at_text j) (λ y. omega arith) refl x (sym said)) cs, ds)
       go false false ds = ds
   record_distinct j (Branch p ∷ row) (t ∷ ts) d (c, cs) = absurd c
   record_distinct j (Outside ∷ row) (t ∷ ts) d (c, cs) = rw c (record_distinct (suc j) row ts (λ i i' p v w n. d (suc i) (suc i') p v w (λ x. n (omega arith))) cs)
@@ -119,20 +120,20 @@ distinct_append : (k : ℕ) (xs ys : List Item) → OnLine k xs → Above k ys �
 distinct_append k [] ys o a d e = e
 distinct_append k (x ∷ xs) ys (i, o) a (n, d) e = (shares_append x xs ys n (above_shares k x ys i a), distinct_append k xs ys o a d e)
 
-on_line : (partAt-text : ℕ → Option ℕ) (all : List (List ℕ)) (kern : List Bool) (k bar j : ℕ) (row : List Spine) (ts : List (List ℕ))
-    → OnLine k (items_from partAt-text all kern k bar j row ts)
+on_line : (part_at_text : ℕ → Option ℕ) (voice_at_text : ℕ → ℕ) (all : List (List ℕ)) (kern : List Bool) (k bar j : ℕ) (row : List Spine) (ts : List (List ℕ))
+    → OnLine k (items_from part_at_text voice_at_text all kern k bar j row ts)
 unfolding items_from
-on_line f all kern k bar j [] ts = tt
-on_line f all kern k bar j (s ∷ row) [] = tt
-on_line f all kern k bar j (s ∷ row) (t ∷ ts) = go (f j) (on_line f all kern k bar (suc j) row ts)
+on_line f g all kern k bar j [] ts = tt
+on_line f g all kern k bar j (s ∷ row) [] = tt
+on_line f g all kern k bar j (s ∷ row) (t ∷ ts) = go (f j) (on_line f g all kern k bar (suc j) row ts)
   where
-    heard : (p : ℕ) (x y : Bool) → OnLine k (items_from f all kern k bar (suc j) row ts)
-        → OnLine k (cond x [] (cond y (item_of f all kern k bar p j s t ∷ []) []) ++ items_from f all kern k bar (suc j) row ts)
+    heard : (p : ℕ) (x y : Bool) → OnLine k (items_from f g all kern k bar (suc j) row ts)
+        → OnLine k (cond x [] (cond y (item_of f g all kern k bar p j t ∷ []) []) ++ items_from f g all kern k bar (suc j) row ts)
     heard p true y o = o
     heard p false true o = (refl, o)
     heard p false false o = o
 
-    go : (p : Option ℕ) → OnLine k (items_from f all kern k bar (suc j) row ts) → OnLine k (item_in f all kern k bar p j s t ++ items_from f all kern k bar (suc j) row ts)
+    go : (p : Option ℕ) → OnLine k (items_from f g all kern k bar (suc j) row ts) → OnLine k (item_in f g all kern k bar p j t ++ items_from f g all kern k bar (suc j) row ts)
     go none o = o
     go (some p) o = heard p (is_null t) (is_note t (inferred_of all kern j t)) o
 
@@ -194,7 +195,7 @@ module _ (h : List Bool) (recs : ℕ → Rec) where
   by_line_lem Comment n c t = tt
   by_line_lem Star n c t = tt
   by_line_lem Bar n c t = tt
-  by_line_lem Data n c t = on_line (part h recs n) _ _ t.number (c + 1) 0 t.row t.tokens
+  by_line_lem Data n c t = on_line (part h recs n) (voice h recs n) _ _ t.number (c + 1) 0 t.row t.tokens
 
   by_distinct : (kind : Kind) (n c : ℕ) (t : Taken) → At h recs n t.row → Distinct (items_by h recs kind n c t)
   unfolding items_of
@@ -203,7 +204,7 @@ module _ (h : List Bool) (recs : ℕ → Rec) where
   by_distinct Comment n c t at = tt
   by_distinct Star n c t at = tt
   by_distinct Bar n c t at = tt
-  by_distinct Data n c t at = record_distinct (part h recs n) _ _ t.number (c + 1) (length (fresh_parts 0 h)) 0 t.row t.tokens ((demand h recs).differ n t.row at) (row_columns h recs n t.row at)
+  by_distinct Data n c t at = record_distinct (part h recs n) (voice h recs n) _ _ t.number (c + 1) (length (fresh_parts 0 h)) 0 t.row t.tokens ((demand h recs).differ n t.row at) (row_columns h recs n t.row at)
 
   abbrev items_behind : ℕ → ℕ → Bool → Taken → List Taken → List Item
   items_behind n c b t ts = account_from h recs (suc n) (closings_after t.kind b c) (noted_after t.kind b (items_by h recs t.kind n c t)) ts

@@ -19,6 +19,7 @@ use Rattle.paths.specs.Demand.{At}
 use Rattle.paths.specs.Text.{reading}
 use Rattle.paths.specs.Token.{path_token}
 use Rattle.paths.specs.Trace.{part}
+use Rattle.paths.specs.TracedVoice.{voice}
 use Rattle.paths.specs.Voices.{Outcome, next, mixed, voiceless, wide, step_row}
 use Rattle.repair.specs.Repair.{repaired, Repaired, repaired_of}
 use Rattle.repair.specs.declared.Repair.{Repair}
@@ -118,10 +119,10 @@ module _ (h : List Bool) (recs : ℕ → Rec) where
   data_step : (n k : ℕ) (st : State) → At h recs n st.row → length st.parts ≡ length (fresh_parts 0 h) → (us : List Token)
       → StepAdds st (read_data k us st) (items_by h recs Data n st.bars (taken_on Data k (map (λ (t : Token). t.bytes) us) st.row))
   unfolding read_data items_of
-  data_step n k st at size us = rw (kern_columns_lem (part h recs n) (length st.parts) 0 st.row columns)
-      (tokens_add (part h recs n) (map (λ (t : Token). t.bytes) us) (map is_kern_spine st.row) k (st.bars + 1) 0 st.row us st refl columns)
+  data_step n k st at size us = rw (kern_columns_lem (part h recs n) (voice h recs n) (length st.parts) 0 st.row columns)
+      (tokens_add (part h recs n) (voice h recs n) (map (λ (t : Token). t.bytes) us) (map is_kern_spine st.row) k (st.bars + 1) 0 st.row us st refl columns)
     where
-      columns : Columns (part h recs n) (length st.parts) 0 st.row
+      columns : Columns (part h recs n) (voice h recs n) (length st.parts) 0 st.row
       columns = rw size (row_columns h recs n st.row at)
 
   -- no kind of record ends the reading

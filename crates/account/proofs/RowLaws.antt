@@ -24,8 +24,10 @@ use Rattle.paths.specs.Demand.{At}
 use Rattle.paths.specs.Text.{reading, read_record, take_record, read_to}
 use Rattle.paths.specs.Token.{path_token}
 use Rattle.paths.specs.Trace.{trace, kerns_before, header_part, part, columns, width_in}
+use Rattle.paths.specs.TracedVoice.{voice}
 use Rattle.paths.proofs.Demand.{demand}
 use Rattle.paths.proofs.TextLaws.{one_more}
+use Rattle.paths.proofs.TracedVoices.{traced_voice}
 use Rattle.repair.specs.Record.{record_of}
 use Rattle.repair.specs.Repair.{repaired, repaired_of}
 use Rattle.repair.specs.declared.Repair.{Repair}
@@ -132,28 +134,34 @@ part_bound h recs n j p = go (trace recs n j)
     go none e = clash cc
     go (some k) e = kern k (get_or h k false) refl e
 
-module _ (partAt-text : ℕ → Option ℕ) (m : ℕ) (bound : (j p : ℕ) → partAt-text j ≡ some p → p < m) where
-  column_is : (i : ℕ) (s : Spine) → part_of s ≡ partAt-text i → ((p : ℕ) → s ≢ Branch p) → Column partAt-text m i s
-  column_is i (Line p v) e b = (sym e, bound i p (sym e))
-  column_is i (Branch p) e b = b p refl
-  column_is i Outside e b = sym e
+module _ (part_at_text : ℕ → Option ℕ) (voice_at_text : ℕ → ℕ) (m : ℕ) (bound : (j p : ℕ) → part_at_text j ≡ some p → p < m) where
+  column_is : (i : ℕ) (s : Spine) → part_of s ≡ part_at_text i → ((p : ℕ) → s ≢ Branch p)
+      → ((p v : ℕ) → s ≡ Line p v → voice_at_text i ≡ v) → Column part_at_text voice_at_text m i s
+  column_is i (Line p v) e b w = (sym e, bound i p (sym e), w p v refl)
+  column_is i (Branch p) e b w = b p refl
+  column_is i Outside e b w = sym e
 
-  columns_are : (i : ℕ) (row : List Spine) → ((j : ℕ) → part_of (spine_at row j) ≡ partAt-text (i + j)) → ((j p : ℕ) → spine_at row j ≢ Branch p) → Columns partAt-text m i row
-  columns_are i [] e b = tt
-  columns_are i (s ∷ row) e b =
-      let z : i + 0 ≡ i = omega arith in
-      (column_is i s (e 0 ∙ ap partAt-text z) (b 0), columns_are (suc i) row (λ j. let y : i + suc j ≡ suc i + j = omega arith in e (suc j) ∙ ap partAt-text y) (λ j. b (suc j)))
+  columns_are : (i : ℕ) (row : List Spine) → ((j : ℕ) → part_of (spine_at row j) ≡ part_at_text (i + j)) → ((j p : ℕ) → spine_at row j ≢ Branch p)
+      → ((j p v : ℕ) → spine_at row j ≡ Line p v → voice_at_text (i + j) ≡ v) → Columns part_at_text voice_at_text m i row
+  columns_are i [] e b w = tt
+  columns_are i (s ∷ row) e b w =
+      let z : i + 0 ≡ i = omega arith in (
+        column_is i s (e 0 ∙ ap part_at_text z) (b 0) (λ p v x. sym (ap voice_at_text z) ∙ w 0 p v x),
+        columns_are (suc i) row (λ j. let y : i + suc j ≡ suc i + j = omega arith in e (suc j) ∙ ap part_at_text y) (λ j. b (suc j))
+            (λ j p v x. let y : suc i + j ≡ i + suc j = omega arith in ap voice_at_text y ∙ w (suc j) p v x),
+      )
 
-pub row_columns : (h : List Bool) (recs : ℕ → Rec) (n : ℕ) (row : List Spine) → At h recs n row → Columns (part h recs n) (length (fresh_parts 0 h)) 0 row
+pub row_columns : (h : List Bool) (recs : ℕ → Rec) (n : ℕ) (row : List Spine) → At h recs n row → Columns (part h recs n) (voice h recs n) (length (fresh_parts 0 h)) 0 row
 row_columns h recs n row at =
-    columns_are (part h recs n) (length (fresh_parts 0 h)) (λ j p. part_bound h recs n j p) 0 row
+    columns_are (part h recs n) (voice h recs n) (length (fresh_parts 0 h)) (λ j p. part_bound h recs n j p) 0 row
     (λ j. let z : j ≡ 0 + j = omega arith in (demand h recs).in_part n row at j ∙ ap (part h recs n) z) ((demand h recs).voiced n row at)
+    (λ j p v x. let z : 0 + j ≡ j = omega arith in ap (voice h recs n) z ∙ traced_voice h recs n row at j p v x)
 
-pub kern_columns_lem : (partAt-text : ℕ → Option ℕ) (m i : ℕ) (row : List Spine) → Columns partAt-text m i row → kern_columns partAt-text i row ≡ map is_kern_spine row
+pub kern_columns_lem : (part_at_text : ℕ → Option ℕ) (voice_at_text : ℕ → ℕ) (m i : ℕ) (row : List Spine) → Columns part_at_text voice_at_text m i row → kern_columns part_at_text i row ≡ map is_kern_spine row
 unfolding kern_columns
-kern_columns_lem f m i [] c = refl
-kern_columns_lem f m i (Line p v ∷ row) ((e, l), cs) = rw e (ap (λ (ks : List Bool). true ∷ ks) (kern_columns_lem f m (suc i) row cs))
-kern_columns_lem f m i (Branch p ∷ row) (c, cs) = absurd c
-kern_columns_lem f m i (Outside ∷ row) (e, cs) = rw e (ap (λ (ks : List Bool). false ∷ ks) (kern_columns_lem f m (suc i) row cs))
+kern_columns_lem f g m i [] c = refl
+kern_columns_lem f g m i (Line p v ∷ row) ((e, l, w), cs) = rw e (ap (λ (ks : List Bool). true ∷ ks) (kern_columns_lem f g m (suc i) row cs))
+kern_columns_lem f g m i (Branch p ∷ row) (c, cs) = absurd c
+kern_columns_lem f g m i (Outside ∷ row) (e, cs) = rw e (ap (λ (ks : List Bool). false ∷ ks) (kern_columns_lem f g m (suc i) row cs))
 
 -- ---- the tokens of a line, with their places and without

@@ -12,9 +12,9 @@ use Rattle.token.specs.Outcome.{note_pitches}
 use Rattle.token.specs.declared.pitches.Tone.{Tone}
 use Rattle.peers.specs.Peers.{is_bare, peer_reciprocal}
 use Rattle.paths.specs.declared.Spine.{Spine}
-use Rattle.paths.specs.declared.Spine.TheVariants.{Line, Branch, Outside}
 use Rattle.paths.specs.Record.{Rec}
 use Rattle.paths.specs.Trace.{part}
+use Rattle.paths.specs.TracedVoice.{voice}
 use Rattle.sheet.specs.declared.Pitch.{Pitch}
 use Rattle.account.specs.Rows.{Taken, header_of, paths_of, taken_of}
 
@@ -32,12 +32,6 @@ pub record Item : Type 0 where
 abbrev pub pitch_of : Tone → Pitch
 pitch_of t = record { step = t.step; octave = t.octave; alter = twos_complement t.alter }
 
--- the voice of a column: that of its line in the row
-abbrev pub voice_of : Spine → ℕ
-voice_of (Line p v) = v
-voice_of (Branch p) = 0
-voice_of Outside = 0
-
 abbrev pub is_kern_column : Option ℕ → Bool
 is_kern_column none = false
 is_kern_column (some p) = true
@@ -51,12 +45,12 @@ kern_columns part_at j (s ∷ row) = is_kern_column (part_at j) ∷ kern_columns
 unfoldable pub inferred_of : List (List ℕ) → List Bool → ℕ → List ℕ → List ℕ
 inferred_of tokens kern j t = cond (is_bare t) (peer_reciprocal tokens kern j) []
 
--- ---- one record
-module _ (part_at : ℕ → Option ℕ) (tokens : List (List ℕ)) (kern : List Bool) (number bar : ℕ) where
-  abbrev pub item_of : ℕ → ℕ → Spine → List ℕ → Item
-  item_of p j s t = record {
+-- ---- one record: each column's part and voice are what the text says of it, traced backwards
+module _ (part_at : ℕ → Option ℕ) (voice_at : ℕ → ℕ) (tokens : List (List ℕ)) (kern : List Bool) (number bar : ℕ) where
+  abbrev pub item_of : ℕ → ℕ → List ℕ → Item
+  item_of p j t = record {
     part = p;
-    voice = voice_of s;
+    voice = voice_at j;
     bar = bar;
     line = number;
     column = j + 1;
@@ -65,15 +59,15 @@ module _ (part_at : ℕ → Option ℕ) (tokens : List (List ℕ)) (kern : List 
   }
 
   -- "a note token a token under a kern spine that gives a note by these rules"; "A `.` is passed over."
-  abbrev pub item_in : Option ℕ → ℕ → Spine → List ℕ → List Item
-  item_in none j s t = []
-  item_in (some p) j s t = cond (is_null t) [] (cond (is_note t (inferred_of tokens kern j t)) (item_of p j s t ∷ []) [])
+  abbrev pub item_in : Option ℕ → ℕ → List ℕ → List Item
+  item_in none j t = []
+  item_in (some p) j t = cond (is_null t) [] (cond (is_note t (inferred_of tokens kern j t)) (item_of p j t ∷ []) [])
 
   -- "by line, then column", from column j on
   unfoldable pub items_from : ℕ → List Spine → List (List ℕ) → List Item
   items_from j [] ts = []
   items_from j (s ∷ row) [] = []
-  items_from j (s ∷ row) (t ∷ ts) = item_in (part_at j) j s t ++ items_from (suc j) row ts
+  items_from j (s ∷ row) (t ∷ ts) = item_in (part_at j) j t ++ items_from (suc j) row ts
 
 -- ---- the whole text
 abbrev pub any_item : List Item → Bool
@@ -102,7 +96,7 @@ module _ (h : List Bool) (recs : ℕ → Rec) where
   -- the note tokens of the n-th later record, "in the bar numbered one above the closings before it"
   unfoldable pub items_of : ℕ → ℕ → Taken → List Item
   items_of n closings t =
-      items_from (part h recs n) t.tokens (kern_columns (part h recs n) 0 t.row) t.number (closings + 1) 0 t.row t.tokens
+      items_from (part h recs n) (voice h recs n) t.tokens (kern_columns (part h recs n) 0 t.row) t.number (closings + 1) 0 t.row t.tokens
 
   -- "in one begun by `=` no token is a note token", nor in one begun by `*`
   abbrev pub items_by : Kind → ℕ → ℕ → Taken → List Item

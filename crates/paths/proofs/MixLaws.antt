@@ -27,7 +27,7 @@ unfolding step_row
 step_mixed row ts c e = rw e
 
 -- the row before a row that is reached
-before : (o : Reading) (f : List Spine → Reading) (r : List Spine) → and_then o f ≡ reached r → (row : List Spine) × (o ≡ reached row)
+pub before : (o : Reading) (f : List Spine → Reading) (r : List Spine) → and_then o f ≡ reached r → (row : List Spine) × (o ≡ reached row)
 before (reached row) f r e = (row, refl)
 before ended f r e = clash cc
 before (refused q g) f r e = clash cc
