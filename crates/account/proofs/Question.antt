@@ -30,7 +30,7 @@ use Rattle.paths.proofs.Demand.{demand}
 use Rattle.sheet.specs.Record.{Record}
 use Rattle.reading.specs.State.{State, Step, refused, goes, ends, start}
 use Rattle.reading.specs.Records.{read_line}
-use Rattle.reading.specs.Text.{refusal, accepted, finish, read_lines, read_text}
+use Rattle.reading.specs.Text.{Answer, refusal, accepted, finish, read_lines, read_text, sheet_bytes, answered, answer_of}
 use Rattle.account.specs.Rows.{Numbered, is_record, records_from, records_of, header_in, header_of, paths_of}
 use Rattle.account.specs.Reached.{Place, where_goes, place_after, ReachedStar, later_among, Question17, Question8}
 use Rattle.account.proofs.RowLaws.{Follows, follows_first, reads_on, kind_star}
@@ -263,20 +263,57 @@ reaches text w k q x e =
       stops = v.stops;
     }
 
--- "a run of `*v` mixes origins": the text's question 17
-pub question_17 : (text : List ℕ) → Question17 text
-question_17 text = record {
-  exactly = λ before rest here there. mixed_there text before here rest there;
-  only = λ k f e. let r : Reaches text 17 k f = reaches text 17 k f (inr refl) e in (r.before, r.here, r.rest, r.there, r.number);
+-- ---- the answer
+
+-- an answer with the number of either question is that of a refusal with it
+refused_so : (a : Answer) (room w k f : ℕ) → OfRow w → answered a room ≡ (w, k, f) → a ≡ refusal w k f
+refused_so (refusal n l g) room w k f o e =
+    let number : n ≡ w = ap (λ (x : ℕ × ℕ × ℕ). x.0) e in
+    let line : l ≡ k = ap (λ (x : ℕ × ℕ × ℕ). x.1) e in
+    let figure : g ≡ f = ap (λ (x : ℕ × ℕ × ℕ). x.2) e in
+    rw (number, line, figure)
+refused_so (accepted parts notes rs) room w k f o e = go (leb (length (sheet_bytes parts notes rs)) room) e
+  where
+    go : (b : Bool) → ◌≡◌ {A = ℕ × ℕ × ℕ} (cond b (0, 0, length (sheet_bytes parts notes rs)) (13, 0, length (sheet_bytes parts notes rs))) (w, k, f)
+        → ◌≡◌ {A = Answer} (accepted parts notes rs) (refusal w k f)
+    go true x = let z : 0 ≡ w = ap (λ (y : ℕ × ℕ × ℕ). y.0) x in absurd (not_theirs 0 w o z (λ y. omega arith) (λ y. omega arith))
+    go false x = let z : 13 ≡ w = ap (λ (y : ℕ × ℕ × ℕ). y.0) x in absurd (not_theirs 13 w o z (λ y. omega arith) (λ y. omega arith))
+
+module _ (text old : List ℕ) (w k f : ℕ) where
+  pub from_answer : OfRow w → answer_of text old ≡ (w, k, f) → read_text text ≡ refusal w k f
+  unfolding answer_of
+  from_answer o e = refused_so (read_text text) (length old) w k f o e
+
+  to_answer : read_text text ≡ refusal w k f → answer_of text old ≡ (w, k, f)
+  unfolding answer_of
+  to_answer e = rw e
+
+-- "a run of `*v` mixes origins": question 17, of the answer
+pub question_17 : (text old : List ℕ) → Question17 text (answer_of text old)
+question_17 text old = record {
+  exactly = λ before rest here there f.
+      let m = mixed_there text before here rest there f in
+      (λ e. m.0 (from_answer text old 17 (length before + 1) f (inr refl) e), λ x. to_answer text old 17 (length before + 1) f (m.1 x));
+  only = λ k f e.
+      let r : Reaches text 17 k f = reaches text 17 k f (inr refl) (from_answer text old 17 k f (inr refl) e) in
+      (r.before, r.here, r.rest, r.there, r.number);
 }
 
--- "A part would hold over four lines": the text's question 8
-pub question_8 : (text : List ℕ) → Question8 text
-question_8 text = record {
-  exactly = λ before rest here there. voiceless_there text before here rest there;
-  only = λ k q e.
-      let r : Reaches text 8 k q = reaches text 8 k q (inl refl) e in
-      let n : Unmixed (header_of text) (paths_of text) (later_among r.before) × FirstWithout (header_of text) (paths_of text) (later_among r.before) q =
-      named_there text r.before r.here r.rest r.there q r.stops in
-      (r.before, r.here, r.rest, r.there, r.number, n.0, n.1);
+-- a text that is refused with 8
+pub refused_with_8 : (text : List ℕ) (k q : ℕ) → read_text text ≡ refusal 8 k q →
+    (before : List (List ℕ)) × (here : List ℕ) × (rest : List (List ℕ)) × ReachedStar text before here rest × (k ≡ length before + 1)
+    × Unmixed (header_of text) (paths_of text) (later_among before) × FirstWithout (header_of text) (paths_of text) (later_among before) q
+refused_with_8 text k q e =
+    let r : Reaches text 8 k q = reaches text 8 k q (inl refl) e in
+    let n : Unmixed (header_of text) (paths_of text) (later_among r.before) × FirstWithout (header_of text) (paths_of text) (later_among r.before) q =
+    named_there text r.before r.here r.rest r.there q r.stops in
+    (r.before, r.here, r.rest, r.there, r.number, n.0, n.1)
+
+-- "A part would hold over four lines": question 8, of the answer
+pub question_8 : (text old : List ℕ) → Question8 text (answer_of text old)
+question_8 text old = record {
+  exactly = λ before rest here there u.
+      let v = voiceless_there text before here rest there u in
+      (λ e. v.0 (e.0, from_answer text old 8 (length before + 1) e.0 (inl refl) e.1), λ p. let r = v.1 p in (r.0, to_answer text old 8 (length before + 1) r.0 r.1));
+  only = λ k q e. refused_with_8 text k q (from_answer text old 8 k q (inl refl) e);
 }

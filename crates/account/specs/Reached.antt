@@ -10,7 +10,6 @@ use Rattle.repair.specs.declared.Repair.{Repair}
 use Rattle.paths.specs.Trace.{lines, FirstWithout, Unmixed, FirstMixed}
 use Rattle.reading.specs.State.{State, Step, refused, goes, ends, start}
 use Rattle.reading.specs.Records.{read_line, is_record}
-use Rattle.reading.specs.Text.{refusal, read_text}
 use Rattle.account.specs.Rows.{header_of, paths_of, records_from, later_in}
 
 -- whether the header was met, and the state
@@ -46,20 +45,20 @@ pub record ReachedStar (text : List ℕ) (before : List (List ℕ)) (here : List
 abbrev pub later_among : List (List ℕ) → ℕ
 later_among ls = length (later_in (records_from 0 ls))
 
--- request E5: "17, put after 7 and before 8, a run of `*v` mixes origins; figure the first such run's first column, from 1"
-pub record Question17 (text : List ℕ) : Type 0 where
+-- "17, put after 7 and before 8, a run of `*v` mixes origins; figure the first such run's first column, from 1": the answer's number, line and figure
+pub record Question17 (text : List ℕ) (answer : ℕ × ℕ × ℕ) : Type 0 where
   pub exactly : (before rest : List (List ℕ)) (here : List ℕ) → ReachedStar text before here rest → (f : ℕ) →
-      (read_text text ≡ refusal 17 (length before + 1) f) ↔ FirstMixed (header_of text) (paths_of text) (later_among before) f
+      (answer ≡ (17, length before + 1, f)) ↔ FirstMixed (header_of text) (paths_of text) (later_among before) f
   -- no other record is refused with 17
-  pub only : (k f : ℕ) → read_text text ≡ refusal 17 k f →
+  pub only : (k f : ℕ) → answer ≡ (17, k, f) →
       (before : List (List ℕ)) × (here : List ℕ) × (rest : List (List ℕ)) × ReachedStar text before here rest × (k ≡ length before + 1)
 
 -- "stopped by no earlier question, is refused with 8 exactly when a part would hold over four lines", with the line and the part of the first that finds
--- no voice
-pub record Question8 (text : List ℕ) : Type 0 where
+-- no voice: the answer's number, line and figure
+pub record Question8 (text : List ℕ) (answer : ℕ × ℕ × ℕ) : Type 0 where
   pub exactly : (before rest : List (List ℕ)) (here : List ℕ) → ReachedStar text before here rest → Unmixed (header_of text) (paths_of text) (later_among before) →
-      ((q : ℕ) × (read_text text ≡ refusal 8 (length before + 1) q)) ↔ ((p : ℕ) × (4 < lines (header_of text) (paths_of text) (suc (later_among before)) p))
+      ((q : ℕ) × (answer ≡ (8, length before + 1, q))) ↔ ((p : ℕ) × (4 < lines (header_of text) (paths_of text) (suc (later_among before)) p))
   -- no other record is refused with 8
-  pub only : (k q : ℕ) → read_text text ≡ refusal 8 k q →
+  pub only : (k q : ℕ) → answer ≡ (8, k, q) →
       (before : List (List ℕ)) × (here : List ℕ) × (rest : List (List ℕ)) × ReachedStar text before here rest × (k ≡ length before + 1)
       × Unmixed (header_of text) (paths_of text) (later_among before) × FirstWithout (header_of text) (paths_of text) (later_among before) q

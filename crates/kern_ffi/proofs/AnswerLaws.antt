@@ -13,7 +13,7 @@ use Rattle.demand.specs.Played.{Played}
 use Rattle.demand.proofs.PlayedLaws.{played}
 use Rattle.demand.proofs.NumberLaws.{refusal_number, refusal_not_13}
 use Rattle.extent.proofs.TextLaws.{sheet_length}
-use Rattle.kern_ffi.specs.Answer.{number_of, figure_of, three_of}
+use Rattle.kern_ffi.specs.Answer.{number_of, figure_of, three_of, numbers_in}
 use Rattle.reader.proofs.AnswerLaws.{Stopped, sheet_long}
 
 -- 0 is an acceptance's number alone, and 13 has the length that is needed
@@ -45,10 +45,10 @@ Answers text old now-out three r =
     (r ≡ number_of (answer_of text old))
     × ((three ≡ three_of (answer_of text old))
     × ((now-out ≡ buffer_of text old)
-    × ((r ≡ 0 → Played text now-out) × ((r ≡ 13 → figure_of (answer_of text old) < 2 ^ 32) × Stopped text))))
+    × ((r ≡ 0 → Played text now-out) × ((r ≡ 13 → figure_of (answer_of text old) < 2 ^ 32) × Stopped text (numbers_in three)))))
 
 pub answers : (text old now-out three : List ℕ) → ((i : ℕ) → get_or text i 0 < 2 ^ 8) → {a : ℕ × ℕ × ℕ} {r : ℕ} → a ≡ answer_of text old → r ≡ number_of a → three ≡ three_of a
-    → now-out ≡ buffer_of text old → Stopped text → Answers text old now-out three r
+    → now-out ≡ buffer_of text old → Stopped text a → Answers text old now-out three r
 answers text old now-out three bytes {a} {r} e n t b q =
     let said = tells text old bytes in
     let number : r ≡ number_of (answer_of text old) = n ∙ ap number_of e in (
@@ -59,7 +59,7 @@ answers text old now-out three bytes {a} {r} e n t b q =
           b,
           (
             λ z. subst (Played text) (sym b) (said.0 (sym number ∙ z)),
-            (λ z. said.1 (sym number ∙ z), q),
+            (λ z. said.1 (sym number ∙ z), subst (Stopped text) (sym (ap numbers_in t)) q),
           ),
         ),
       ),

@@ -3,13 +3,19 @@ use mathlib.Core.Path.{◌≡◌, refl, sym, ap, ap₂, ◌∙◌}
 use Prim.Native.Nat.{ℕ, ◌+◌, ◌-◌, ◌*◌, ◌≤◌, ◌<◌}
 use native.Mathlib.Numerals.{add-one}
 use native.Mathlib.Omega.{arith}
-use mathlib.Core.List.{List, [], ◌∷◌, ◌++◌, append_assoc}
-use lib.ListN.{length, get_or, take, drop}
+use mathlib.Core.List.{List, [], ◌∷◌, ◌++◌, append_assoc, append-nil}
+use lib.ListN.{length, get_or, take, drop, drop_of_length-le}
 use lib.Seq.{take_at, drop_at, take-suc, drop-drop, take_all, length-take-le}
 use borrow.Author.Tests.{le-leb}
 use Rattle.slices.specs.Store.{stored}
 use Rattle.holders.specs.declared.list.Holder.{Holder}
-use Rattle.kern_ffi.specs.Answer.{entry_numbers}
+use Rattle.holders.specs.Holders.{Five}
+use Rattle.std.specs.Prelude.{Result, Ok, Err}
+use Rattle.refusal.specs.declared.Refusal.{Refusal}
+use Rattle.refusal.specs.declared.Refusal.TheVariants.{StaffFull}
+use Rattle.reader.specs.Answer.{numbers_of}
+use Rattle.staff.proofs.FillingLaws.{eight}
+use Rattle.kern_ffi.specs.Answer.{number_of, entry_numbers, FiveEntries}
 
 numbers_length : (xs : List Holder) → length (entry_numbers xs) ≡ 3 * length xs
 unfolding entry_numbers
@@ -66,3 +72,20 @@ module _ {old : List ℕ} {entries : List Holder} {lines : List ℕ} {i : ℕ} (
       let whole : take i entries ≡ entries = take_all i entries (omega (arith, e)) in
       let size : length (entry_numbers entries) ≡ 3 * i = numbers_length entries ∙ ap (λ (n : ℕ). 3 * n) (sym e) in
       rw (le-leb (length (entry_numbers entries)) (length old) (omega (arith, size, e, h)), size) (rw whole at inv.same)
+
+-- an answer of number 8 is that of a full staff, whose five entries fill the array
+pub five_entries : (old : List ℕ) (answer : Result ℕ Refusal) → number_of (numbers_of answer) ≡ 8 → {lines : List ℕ} {entries given : List Holder}
+    → ((k q : ℕ) → answer ≡ Err (StaffFull k q) → Five entries) → given ≡ entries → lines ≡ stored old (entry_numbers given) → length old ≡ 15 → FiveEntries lines
+unfolding stored
+five_entries old (Ok n) z f g e l = absurd (omega arith)
+five_entries old (Err r) z {lines = lines} {entries} f g e l = record { entries = entries; five = five; same = e ∙ ap (λ (hs : List Holder). stored old (entry_numbers hs)) g ∙ whole }
+  where
+    five : Five entries
+    five = let x = eight r z in f x.0 x.1.0 (ap Err x.1.1)
+
+    long : length (entry_numbers entries) ≡ 15
+    long = numbers_length entries ∙ ap (λ (n : ℕ). 3 * n) five.five
+
+    whole : stored old (entry_numbers entries) ≡ entry_numbers entries
+    whole = rw (le-leb (length (entry_numbers entries)) (length old) (omega (arith, long, l)))
+        (ap (λ (xs : List ℕ). entry_numbers entries ++ xs) (drop_of_length-le old {i = length (entry_numbers entries)} (omega (arith, long, l))) ∙ append-nil (entry_numbers entries))

@@ -4,10 +4,9 @@ ghost use Rattle.slices.specs.Store.{stored};
 ghost use Rattle.holders.specs.Walk.{listed};
 ghost use Rattle.staff.specs.Filling.{filling_of};
 ghost use Rattle.reading.specs.Text.{answer_of, buffer_of};
-ghost use Rattle.account.specs.Joins.{OneOrigin};
 ghost use Rattle.account.specs.Reached.{Question8, Question17};
 ghost use Rattle.demand.specs.Played.{Played};
-ghost use Rattle.kern_ffi.specs.Answer.{number_of, figure_of, three_of, entry_numbers};
+ghost use Rattle.kern_ffi.specs.Answer.{number_of, figure_of, three_of, numbers_in, entry_numbers, FiveEntries};
 
 use holders::Holder;
 
@@ -47,10 +46,10 @@ pub extern "C" fn kern_read_lines(
     ensures buffer { out.new ≡ buffer_of text.now out.old }
     ensures played { result ≡ 0 → Played text.now out.new }
     ensures needed { result ≡ 13 → figure_of (answer_of text.now out.old) < 2 ^ 32 }
-    ensures stopped { Question8 text.now }
-    ensures joined { Question17 text.now }
-    ensures traced { OneOrigin text.now }
+    ensures stopped { Question8 text.now (numbers_in answer.new) }
+    ensures joined { Question17 text.now (numbers_in answer.new) }
     ensures lines { lines.new ≡ stored lines.old (entry_numbers (filling_of text.now)) }
+    ensures filled { result ≡ 8 → FiveEntries lines.new }
 {
     let explained = staff::read_with_lines(text, out);
     put_lines(lines, explained.lines.as_slice());

@@ -7,13 +7,12 @@ pub mod rests;
 ghost use Rattle.std.specs.Prelude.{◌≡◌, ◌<◌, ◌^◌, length};
 ghost use Rattle.slices.specs.Store.{stored};
 ghost use Rattle.reading.specs.Text.{answer_of, buffer_of};
-ghost use Rattle.account.specs.Joins.{OneOrigin};
 ghost use Rattle.account.specs.Reached.{Question8, Question17};
 ghost use Rattle.demand.specs.Played.{Played};
 ghost use Rattle.reader.specs.Answer.{numbers_of};
 ghost use Rattle.notice.specs.Table.{code_of, reason_of};
 ghost use Rattle.names.specs.Names.{spine_name, name_of};
-ghost use Rattle.kern_ffi.specs.Answer.{number_of, figure_of, three_of, given_name};
+ghost use Rattle.kern_ffi.specs.Answer.{number_of, figure_of, three_of, numbers_in, given_name};
 
 use names::SpineName;
 use refusal::Refusal;
@@ -47,9 +46,8 @@ pub extern "C" fn kern_read(text: &[u8], out: &mut [u8], answer: &mut [u64; 3]) 
     ensures buffer { out.new ≡ buffer_of text.now out.old }
     ensures played { result ≡ 0 → Played text.now out.new }
     ensures needed { result ≡ 13 → figure_of (answer_of text.now out.old) < 2 ^ 32 }
-    ensures stopped { Question8 text.now }
-    ensures joined { Question17 text.now }
-    ensures traced { OneOrigin text.now }
+    ensures stopped { Question8 text.now (numbers_in answer.new) }
+    ensures joined { Question17 text.now (numbers_in answer.new) }
 {
     let said = reader::read(text, out);
     put_answer(answer, said)

@@ -19,9 +19,7 @@ use Rattle.reading.specs.State.{start}
 use Rattle.reading.specs.Text.{Answer, refusal, accepted, read_lines, read_text, sheet_bytes, answer_of, buffer_of}
 use Rattle.state.specs.Lay.{laid, behind}
 use Rattle.state.proofs.LayLaws.{laid_fits, behind_small}
-use Rattle.account.specs.Joins.{OneOrigin}
 use Rattle.account.specs.Reached.{Question8, Question17}
-use Rattle.account.proofs.Distinct.{one_origin}
 use Rattle.account.proofs.Question.{question_8, question_17}
 use Rattle.demand.specs.Played.{Played}
 use Rattle.demand.proofs.PlayedLaws.{played}
@@ -160,18 +158,18 @@ tells text out rest (Err r) e = refusal_is (read_text text) (number_of r) (line_
 
 -- ---- the answers, with all that the contract says of them
 
--- what holds of every text: questions 8 and 17, and the traces
-abbrev pub Stopped : List ℕ → Type 0
-Stopped text = Question8 text × (Question17 text × OneOrigin text)
+-- what holds of an answer's numbers: questions 8 and 17
+abbrev pub Stopped : List ℕ → ℕ × ℕ × ℕ → Type 0
+Stopped text answer = Question8 text answer × Question17 text answer
 
-stopped : (text : List ℕ) → Stopped text
-stopped text = (question_8 text, (question_17 text, one_origin text))
+stopped : (text old : List ℕ) {answer : ℕ × ℕ × ℕ} → answer ≡ answer_of text old → Stopped text answer
+stopped text old e = subst (Stopped text) (sym e) (question_8 text old, question_17 text old)
 
 abbrev pub Answers : List ℕ → List ℕ → List ℕ → Result ℕ Refusal → Type 0
 Answers text old now-out r =
     (numbers_of r ≡ answer_of text old)
     × ((now-out ≡ buffer_of text old)
-    × (((n : ℕ) → r ≡ Ok n → (n ≤ length old) × Played text now-out) × (((f : ℕ) → r ≡ Err (ShortBuffer f) → f < 2 ^ 32) × Stopped text)))
+    × (((n : ℕ) → r ≡ Ok n → (n ≤ length old) × Played text now-out) × (((f : ℕ) → r ≡ Err (ShortBuffer f) → f < 2 ^ 32) × Stopped text (numbers_of r))))
 
 pub answers_refused : (text old : List ℕ) (r : Refusal) → read_text text ≡ refusal (number_of r) (line_of r) (figure_of r) → Answers text old old (Err r)
 answers_refused text old r e =
@@ -181,7 +179,7 @@ answers_refused text old r e =
         sym a.1,
         (
           λ (k : ℕ) q. clash cc,
-          (λ (g : ℕ) q. absurd (refusal_not_13 text (number_of r) (line_of r) (figure_of r) e (is_13 q)), stopped text),
+          (λ (g : ℕ) q. absurd (refusal_not_13 text (number_of r) (line_of r) (figure_of r) e (is_13 q)), stopped text old (sym a.0)),
         ),
       ),
     )
@@ -198,7 +196,7 @@ answers_short {text} {parts} {notes} {at} old m h =
         sym a.1,
         (
           λ (k : ℕ) q. clash cc,
-          (λ (g : ℕ) q. let z : 16 + at ≡ g = cc in omega (arith, measured_long m), stopped text),
+          (λ (g : ℕ) q. let z : 16 + at ≡ g = cc in omega (arith, measured_long m), stopped text old (sym a.0)),
         ),
       ),
     )
@@ -211,7 +209,7 @@ answers_written {text} {parts} {notes} {at} old bytes m h {now-out} e = (
     e,
     (
       λ (k : ℕ) q. let z : 16 + at ≡ k = cc in (omega arith, subst (Played text) (sym e) (played text old bytes parts notes m.records m.is (omega (arith, m.size)))),
-      (λ (g : ℕ) q. clash cc, stopped text),
+      (λ (g : ℕ) q. clash cc, stopped text old (sym (answers_sheet old m h))),
     ),
   ),
 )

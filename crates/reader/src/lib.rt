@@ -8,7 +8,6 @@ ghost use Rattle.refusal.specs.declared.Refusal.TheVariants.{ShortBuffer};
 ghost use Rattle.reading.specs.State.{start};
 ghost use Rattle.reading.specs.Text.{answer_of, buffer_of};
 ghost use Rattle.state.specs.View.{state_of};
-ghost use Rattle.account.specs.Joins.{OneOrigin};
 ghost use Rattle.account.specs.Reached.{Question8, Question17};
 ghost use Rattle.demand.specs.Played.{Played};
 ghost use Rattle.reader.specs.Answer.{numbers_of};
@@ -152,9 +151,8 @@ pub fn read(text: &[u8], out: &mut [u8]) -> Result<usize, Refusal>
     ensures fits { (n : ℕ) → result ≡ Ok n → n ≤ length out.old }
     ensures played { (n : ℕ) → result ≡ Ok n → Played text.now out.new }
     ensures needed { (f : ℕ) → result ≡ Err (ShortBuffer f) → f < 2 ^ 32 }
-    ensures stopped { Question8 text.now }
-    ensures joined { Question17 text.now }
-    ensures traced { OneOrigin text.now }
+    ensures stopped { Question8 text.now (numbers_of result) }
+    ensures joined { Question17 text.now (numbers_of result) }
 {
     if text.len() > MOST_BYTES {
         return Err(Refusal::TooLong { length: text.len() });

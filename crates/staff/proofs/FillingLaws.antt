@@ -40,11 +40,11 @@ use Rattle.reading.specs.Notices.{placed}
 use Rattle.reading.specs.State.{State, Result, Step, refused, goes, ends, start}
 use Rattle.reading.specs.Text.{Answer, refusal, accepted, read_text, sheet_bytes, answered, answer_of, buffer_of}
 use Rattle.account.specs.Reached.{Place, where_goes, place_after, ReachedStar, later_among, Question8, Question17}
-use Rattle.account.specs.Joins.{OneOrigin}
 use Rattle.account.specs.Rows.{Numbered, is_record, records_from, records_of, header_in, header_of, paths_of, row_after}
 use Rattle.account.proofs.LineLaws.{record_at, records_some, other_line, record_line, same_record, Passed, passed, paths_in, Begins, begins}
 use Rattle.account.proofs.PlaceLaws.{place_line, place_start}
-use Rattle.account.proofs.Question.{question_8}
+use mathlib.Core.Logic.{inl}
+use Rattle.account.proofs.Question.{from_answer, refused_with_8}
 use Rattle.account.proofs.RecordLaws.{Stands}
 use Rattle.account.proofs.ResultLaws.{Adds}
 use Rattle.account.proofs.RowLaws.{Follows, follows_first, reads_on, kind_star}
@@ -233,7 +233,7 @@ pub record Filled (text : List ℕ) (k q : ℕ) : Type 0 where
 pub filled : (text : List ℕ) (k q : ℕ) → read_text text ≡ refusal 8 k q → Filled text k q
 unfolding filling_of
 filled text k q e =
-    let o = (question_8 text).only k q e in
+    let o = refused_with_8 text k q e in
     let before : List (List ℕ) = o.0 in
     let there : ReachedStar text before o.1 o.2 = o.3 in
     let at : k ≡ length before + 1 = o.4 in
@@ -263,14 +263,14 @@ abbrev Promised : List ℕ → List ℕ → List ℕ → Answered ℕ Refusal �
 Promised text old new r =
     (numbers_of r ≡ answer_of text old)
     × ((new ≡ buffer_of text old)
-    × (((n : ℕ) → r ≡ Ok n → Played text new) × (((f : ℕ) → r ≡ Err (ShortBuffer f) → f < 2 ^ 32) × (Question8 text × (Question17 text × OneOrigin text)))))
+    × (((n : ℕ) → r ≡ Ok n → Played text new) × (((f : ℕ) → r ≡ Err (ShortBuffer f) → f < 2 ^ 32) × (Question8 text (numbers_of r) × Question17 text (numbers_of r)))))
 
 abbrev Explains : List ℕ → List ℕ → List ℕ → Answered ℕ Refusal → Holders → Type 0
 Explains text old new r held =
     Promised text old new r × ((listed held ≡ filling_of text) × ((k q : ℕ) → r ≡ Err (StaffFull k q) → Five (listed held)))
 
 -- question 8 is that of a full staff alone
-eight : (r : Refusal) → number_of r ≡ 8 → (k : ℕ) × ((q : ℕ) × (r ≡ StaffFull k q))
+pub eight : (r : Refusal) → number_of r ≡ 8 → (k : ℕ) × ((q : ℕ) × (r ≡ StaffFull k q))
 eight (TooLong n) e = absurd (omega arith)
 eight (NotUtf8 n) e = absurd (omega arith)
 eight (NotExclusive k) e = absurd (omega arith)
@@ -286,23 +286,6 @@ eight NoNote e = absurd (omega arith)
 eight (ShortBuffer n) e = absurd (omega arith)
 eight (MixedJoin k c) e = absurd (omega arith)
 
--- the text's own refusal
-text_refused : (text old : List ℕ) (n k q : ℕ) → (n, k, q) ≡ answer_of text old → n ≡ 8 → read_text text ≡ refusal 8 k q
-unfolding answer_of
-text_refused text old n k q = go (read_text text)
-  where
-    by_room : (b : Bool) (long : ℕ) → ◌≡◌ {A = ℕ × ℕ × ℕ} (n, k, q) (cond b (0, 0, long) (13, 0, long)) → n ≡ 8 → ⊥
-    by_room true long e z = omega (arith, ap (λ (x : ℕ × ℕ × ℕ). x.0) e)
-    by_room false long e z = omega (arith, ap (λ (x : ℕ × ℕ × ℕ). x.0) e)
-
-    go : (a : Answer) → (n, k, q) ≡ answered a (length old) → n ≡ 8 → a ≡ refusal 8 k q
-    go (refusal m l f) e z =
-        let a : m ≡ 8 = sym (ap (λ (x : ℕ × ℕ × ℕ). x.0) e) ∙ z in
-        let b : l ≡ k = sym (ap (λ (x : ℕ × ℕ × ℕ). x.1) e) in
-        let c : f ≡ q = sym (ap (λ (x : ℕ × ℕ × ℕ). x.2) e) in
-        rw (a, b, c)
-    go (accepted parts notes rs) e z = absurd (by_room (leb (length (sheet_bytes parts notes rs)) (length old)) (length (sheet_bytes parts notes rs)) e z)
-
 -- no refusal with 8
 text_other : (text old : List ℕ) (a : ℕ × ℕ × ℕ) → a ≡ answer_of text old → (a.0 ≡ 8 → ⊥) → (k q : ℕ) → read_text text ≡ refusal 8 k q → ⊥
 unfolding answer_of
@@ -310,7 +293,7 @@ text_other text old a e n k q is = n (ap (λ (x : ℕ × ℕ × ℕ). x.0) (e �
 
 module _ (text old new : List ℕ) {r : Answered ℕ Refusal} (p : Promised text old new r) where
   full : {k q : ℕ} → r ≡ Err (StaffFull k q) → Filled text k q
-  full {k} {q} is = filled text k q (text_refused text old 8 k q (sym (ap numbers_of is) ∙ p.0) refl)
+  full {k} {q} is = filled text k q (from_answer text old 8 k q (inl refl) (sym p.0 ∙ ap numbers_of is))
 
   -- a text that isn't refused with 8
   other : ((k q : ℕ) → r ≡ Err (StaffFull k q) → ⊥) → (a : Answered ℕ Refusal) → r ≡ a → (numbers_of a).0 ≡ 8 → ⊥

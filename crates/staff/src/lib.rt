@@ -7,7 +7,6 @@ ghost use Rattle.spines.specs.Cells.{row_of};
 ghost use Rattle.holders.specs.Holders.{Five};
 ghost use Rattle.holders.specs.Walk.{listed, or_zero, kern_column};
 ghost use Rattle.reading.specs.Text.{answer_of, buffer_of};
-ghost use Rattle.account.specs.Joins.{OneOrigin};
 ghost use Rattle.account.specs.Reached.{Question8, Question17};
 ghost use Rattle.account.specs.Rows.{header_of};
 ghost use Rattle.demand.specs.Played.{Played};
@@ -113,9 +112,8 @@ pub fn read_with_lines(text: &[u8], out: &mut [u8]) -> Explained
     ensures buffer { out.new ≡ buffer_of text.now out.old }
     ensures played { (n : ℕ) → result.answer ≡ Ok n → Played text.now out.new }
     ensures needed { (f : ℕ) → result.answer ≡ Err (ShortBuffer f) → f < 2 ^ 32 }
-    ensures stopped { Question8 text.now }
-    ensures joined { Question17 text.now }
-    ensures traced { OneOrigin text.now }
+    ensures stopped { Question8 text.now (numbers_of result.answer) }
+    ensures joined { Question17 text.now (numbers_of result.answer) }
     ensures lines { listed result.lines ≡ filling_of text.now }
     ensures filled { (k q : ℕ) → result.answer ≡ Err (StaffFull k q) → Five (listed result.lines) }
 {

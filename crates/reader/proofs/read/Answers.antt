@@ -15,8 +15,7 @@ returns-then-text-gt-MOST_BYTES c =
       played = λ n e. (r.1.1.0 n e).1;
       needed = r.1.1.1.0;
       stopped = r.1.1.1.1.0;
-      joined = r.1.1.1.1.1.0;
-      traced = r.1.1.1.1.1.1;
+      joined = r.1.1.1.1.1;
     }
 
 pub returns-then-good-text : goal.returns-then-good-text
@@ -29,8 +28,7 @@ returns-then-good-text c =
       played = λ n e. (r.1.1.0 n e).1;
       needed = r.1.1.1.0;
       stopped = r.1.1.1.1.0;
-      joined = r.1.1.1.1.1.0;
-      traced = r.1.1.1.1.1.1;
+      joined = r.1.1.1.1.1;
     }
 
 pub returns-in_err-written : goal.returns-in_err-written
@@ -44,8 +42,7 @@ returns-in_err-written c =
       played = λ n e. (r.1.1.0 n e).1;
       needed = r.1.1.1.0;
       stopped = r.1.1.1.1.0;
-      joined = r.1.1.1.1.1.0;
-      traced = r.1.1.1.1.1.1;
+      joined = r.1.1.1.1.1;
     })
 
 pub overflow_add-needed : goal.overflow_add-needed
@@ -61,8 +58,7 @@ returns-then-out-needed c =
       played = λ n e. (r.1.1.0 n e).1;
       needed = r.1.1.1.0;
       stopped = r.1.1.1.1.0;
-      joined = r.1.1.1.1.1.0;
-      traced = r.1.1.1.1.1.1;
+      joined = r.1.1.1.1.1;
     }
 
 pub write_sheet-requires : goal.write_sheet-requires
@@ -82,6 +78,5 @@ returns c =
       played = λ n e. (r.1.1.0 n e).1;
       needed = r.1.1.1.0;
       stopped = r.1.1.1.1.0;
-      joined = r.1.1.1.1.1.0;
-      traced = r.1.1.1.1.1.1;
+      joined = r.1.1.1.1.1;
     }
