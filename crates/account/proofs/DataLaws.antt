@@ -204,10 +204,15 @@ module _ (part_at_text : ℕ → Option ℕ) (voice_at_text : ℕ → ℕ) (all 
   spine_adds (Branch p) i t st b c = absurd c
   spine_adds Outside i t st b c = rw c (quiet_adds st)
 
-  pub tokens_add : (i : ℕ) (row : List Spine) (ts : List Token) (st : State) → st.bars + 1 ≡ bar → Columns part_at_text voice_at_text (length st.parts) i row
-      → StepAdds st (read_tokens all kern k i row ts st) (items_from part_at_text voice_at_text all kern k bar i row (map (λ (t : Token). t.bytes) ts))
+  -- as many tokens as the row has spines
+  pub tokens_add : (i : ℕ) (row : List Spine) (ts : List Token) (st : State) → length row ≡ length ts → st.bars + 1 ≡ bar
+      → Columns part_at_text voice_at_text (length st.parts) i row
+      → StepAdds st (read_tokens all kern k i row ts st) (items_from part_at_text voice_at_text all kern k bar i (map (λ (t : Token). t.bytes) ts))
   unfolding read_tokens items_from
-  tokens_add i [] ts st b c = quiet_adds st
-  tokens_add i (s ∷ row) [] st b c = quiet_adds st
-  tokens_add i (s ∷ row) (t ∷ ts) st b (c, cs) = then_step _ _ (read_spine s all kern k i t st) (read_tokens all kern k (suc i) row ts) (spine_adds s i t st b c)
-      (λ r a. tokens_add (suc i) row ts r.state (ap (λ (m : ℕ). m + 1) a.bars ∙ b) (subst (λ (m : ℕ). Columns part_at_text voice_at_text m (suc i) row) (sym a.size) cs))
+  tokens_add i [] [] st z b c = quiet_adds st
+  tokens_add i [] (t ∷ ts) st z b c = absurd (omega arith)
+  tokens_add i (s ∷ row) [] st z b c = absurd (omega arith)
+  tokens_add i (s ∷ row) (t ∷ ts) st z b (c, cs) =
+      then_step _ _ (read_spine s all kern k i t st) (read_tokens all kern k (suc i) row ts) (spine_adds s i t st b c)
+      (λ r a. tokens_add (suc i) row ts r.state (omega arith) (ap (λ (m : ℕ). m + 1) a.bars ∙ b)
+      (subst (λ (m : ℕ). Columns part_at_text voice_at_text m (suc i) row) (sym a.size) cs))

@@ -55,10 +55,10 @@ module _ (text old : List ℕ) (bytes : (i : ℕ) → get_or text i 0 < 2 ^ 8) (
 
   pub played : Played text (buffer_of text old)
   played = record {
-    notes = subst (λ ns. Agree ns (account text)) (sym plays) (accepted_notes text parts notes rs is).0;
+    notes = subst (λ ns. Agree ns (account text)) (sym plays) (accepted_notes text parts notes rs is).agree;
     count =
         ap (λ (b : List ℕ). (head_of b).notes) in_buffer
         ∙ ap (λ (h : Head). h.notes) (sheet_head head rs behind head_fits (all_fit text bytes parts notes rs is) refl)
-        ∙ (accepted_notes text parts notes rs is).1;
+        ∙ (accepted_notes text parts notes rs is).count;
     distinct = subst (λ ns. Apart NotesShare ns) (sym plays) (notes_never_share text parts notes rs is);
   }
