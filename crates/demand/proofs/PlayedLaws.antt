@@ -19,6 +19,7 @@ use Rattle.account.specs.Account.{account}
 use Rattle.account.specs.Agree.{Agree, Apart, NotesShare}
 use Rattle.account.proofs.Accepted.{accepted_notes}
 use Rattle.account.proofs.Distinct.{notes_never_share}
+use Rattle.account.proofs.JoinLaws.{any_line}
 use Rattle.extent.specs.Extent.{Extent}
 use Rattle.extent.proofs.TextLaws.{extent}
 use Rattle.fits.proofs.Whole.{all_fit}
@@ -61,4 +62,5 @@ module _ (text old : List ℕ) (bytes : (i : ℕ) → get_or text i 0 < 2 ^ 8) (
         ∙ ap (λ (h : Head). h.notes) (sheet_head head rs behind head_fits (all_fit text bytes parts notes rs is) refl)
         ∙ (accepted_notes text parts notes rs is).count;
     distinct = subst (λ ns. Apart NotesShare ns) (sym plays) (notes_never_share text parts notes rs is);
+    any_line = λ ends may_end. rw (plays, any_line text parts notes rs is ends may_end) (accepted_notes text parts notes rs is).agree;
   }
