@@ -1,7 +1,7 @@
 -- One line of a text: what the reading goes on with, and what the text says from there on.
 use Prim.Native.Nat.{ℕ, suc, ◌+◌}
 use native.Mathlib.Omega.{arith}
-use mathlib.Core.Bool.{Bool, true, false, cond, not, ◌||◌}
+use mathlib.Core.Bool.{Bool, true, false, cond, not, ◌||◌, or-false}
 use mathlib.Core.List.{List, [], ◌∷◌, ◌++◌, map}
 use mathlib.Core.Path.{◌≡◌, refl, sym, ap, subst, ◌∙◌}
 use lib.Dec.{ltb}
@@ -22,12 +22,12 @@ use Rattle.reading.specs.State.{State, Result, Step, refused, goes, ends, with_r
 use Rattle.reading.specs.Notices.{quiet, placed}
 use Rattle.reading.specs.Header.{fresh_parts, any_kern, notice_others, read_reference, read_header}
 use Rattle.reading.specs.Bars.{any_noted}
-use Rattle.reading.specs.Records.{by_line, on_record, read_line, is_record as isRecordRead}
+use Rattle.reading.specs.Records.{by_line, on_record, read_line, is_record as is_record_read}
 use Rattle.reading.specs.Text.{Answer, refusal, finish, read_lines}
 use Rattle.account.specs.Rows.{Numbered, is_record, records_from, header_in, later_in, paths_from, taken_from}
 use Rattle.account.specs.Account.{Item}
 use Rattle.account.specs.Agree.{Agree}
-use Rattle.account.proofs.ResultLaws.{Adds, quiet_adds, reference_adds, others_add, or-false}
+use Rattle.account.proofs.ResultLaws.{Adds, quiet_adds, reference_adds, others_add}
 use Rattle.account.proofs.RecordLaws.{Stands, rest, UnderRows, Went, went, went_last}
 use Rattle.reading.proofs.StateLaws.{fresh_noted}
 
@@ -78,7 +78,7 @@ carry_on begun k offset before ls (refused n m f) = refusal n m f
 carry_on begun k offset before ls (goes r) = read_lines begun k offset (before ++ r.records) r.state ls
 carry_on begun k offset before ls (ends r) = finish true (before ++ r.records) r.state
 
-pub same_record : (kind : Kind) → isRecordRead kind ≡ is_record kind
+pub same_record : (kind : Kind) → is_record_read kind ≡ is_record kind
 same_record Empty = refl
 same_record Reference = refl
 same_record Comment = refl
@@ -94,9 +94,9 @@ read_line_lem begun k offset before st l ls = rw (← same_record (kind_of (with
   where
     go : (s : Step) → ◌≡◌ {A = Answer} (elim s as (λ x. Answer) [
       | refused n m f ↦ refusal n m f
-      | goes r ↦ read_lines (begun || isRecordRead (kind_of (without_crs l))) (k + 1) (offset + length l + 1) (before ++ r.records) r.state ls
+      | goes r ↦ read_lines (begun || is_record_read (kind_of (without_crs l))) (k + 1) (offset + length l + 1) (before ++ r.records) r.state ls
       | ends r ↦ finish true (before ++ r.records) r.state
-    ]) (carry_on (begun || isRecordRead (kind_of (without_crs l))) (k + 1) (offset + length l + 1) before ls s)
+    ]) (carry_on (begun || is_record_read (kind_of (without_crs l))) (k + 1) (offset + length l + 1) before ls s)
     go (refused n m f) = refl
     go (goes r) = refl
     go (ends r) = refl

@@ -2,7 +2,7 @@
 use Rattle.std.proofs.Common.{Ok, Err}
 use Prim.Native.Nat.{ℕ, suc, ◌+◌, ◌<◌}
 use native.Mathlib.Omega.{arith}
-use mathlib.Core.Bool.{Bool, true, false, cond, ◌||◌}
+use mathlib.Core.Bool.{Bool, true, false, cond, ◌||◌, or-false}
 use mathlib.Core.List.{List, [], ◌∷◌, ◌++◌, map}
 use mathlib.Core.Path.{◌≡◌, refl, sym, ap, subst, ◌∙◌}
 use lib.Dec.{eqb}
@@ -39,7 +39,7 @@ use Rattle.reading.specs.Records.{notice_repair, by_kind, by_repair, on_row}
 use Rattle.account.specs.Rows.{Numbered, is_record, Taken, taken_from}
 use Rattle.account.specs.Account.{Item, closings_after, noted_after, items_of, items_by, account_from}
 use Rattle.account.specs.Agree.{Agree, both_end}
-use Rattle.account.proofs.ResultLaws.{Adds, agree_notes, or-false, notify_adds, repair_adds, columns_add}
+use Rattle.account.proofs.ResultLaws.{Adds, agree_notes, notify_adds, repair_adds, columns_add}
 use Rattle.account.proofs.DataLaws.{StepAdds, Columns, tokens_add}
 use Rattle.account.proofs.RowLaws.{row_after, Follows, follows_first, next_width, follows_next, reads_on, row_columns, kern_columns_lem}
 use Rattle.reading.proofs.StateLaws.{placed_bytes, closed_noted}
