@@ -55,7 +55,8 @@ closing_silent st = go (any_noted st.parts) refl
     go true e = (closes 0 0 st e).silent
     go false e = refl
 
-pub finish_played : (begun : Bool) (before : List Record) (st : State) {items : List Item} {parts notes : ℕ} {rs : List Record} → Agree (notes_of before) items → st.notes ≡ length items
+pub finish_played : (begun : Bool) (before : List Record) (st : State) {items : List Item} {parts notes : ℕ} {rs : List Record}
+    → Agree (notes_of before) items → st.notes ≡ length items
     → finish begun before st ≡ accepted parts notes rs → Played items notes rs
 unfolding finish
 finish_played begun before st {items} {parts} {notes} {rs} a c = go begun (eqb st.notes 0)
@@ -64,9 +65,13 @@ finish_played begun before st {items} {parts} {notes} {rs} a c = go begun (eqb s
     tail = (last_closing st).records ++ last_records (last_closing st).state
 
     silent : notes_of (before ++ tail) ≡ notes_of before
-    silent = notes_append before tail ∙ ap (λ (l : List _). notes_of before ++ l) (notes_append (last_closing st).records (last_records (last_closing st).state)) ∙ rw (closing_silent st, last_silent (last_closing st).state) (append-nil (notes_of before))
+    silent =
+        notes_append before tail
+        ∙ ap (λ (l : List _). notes_of before ++ l) (notes_append (last_closing st).records (last_records (last_closing st).state))
+        ∙ rw (closing_silent st, last_silent (last_closing st).state) (append-nil (notes_of before))
 
-    go : (b none : Bool) → cond b (cond none (refusal 12 0 0) (accepted (length st.parts) st.notes (before ++ tail))) (refusal 11 0 0) ≡ accepted parts notes rs → Played items notes rs
+    go : (b none : Bool) → cond b (cond none (refusal 12 0 0) (accepted (length st.parts) st.notes (before ++ tail))) (refusal 11 0 0) ≡ accepted parts notes rs
+        → Played items notes rs
     go true true e = clash cc
     go true false e =
         let same : before ++ tail ≡ rs = cc in
@@ -82,15 +87,15 @@ module _ (h : List Bool) (recs : ℕ → Rec) (parts notes : ℕ) (rs : List Rec
   Whole n st done later = Played (done ++ rest h recs n st later) notes rs × UnderRows h recs n (taken_from (length st.row) later)
 
   abbrev FromHere : ℕ → ℕ → List (List ℕ) → Type 0
-  FromHere k offset ls = (n : ℕ) (before : List Record) (st : State) (done : List Item) → Stands h recs n st (records_from k ls) → Agree (notes_of before) done
-      → st.notes ≡ length done → read_lines true k offset before st ls ≡ accepted parts notes rs → Whole n st done (records_from k ls)
+  FromHere k offset ls = (n : ℕ) (before : List Record) (st : State) (done : List Item) → Stands h recs n st (records_from k ls)
+      → Agree (notes_of before) done → st.notes ≡ length done → read_lines true k offset before st ls ≡ accepted parts notes rs → Whole n st done (records_from k ls)
 
   one_line : (k offset : ℕ) (l : List ℕ) (ls : List (List ℕ)) → FromHere (k + 1) (offset + length l + 1) ls → FromHere k offset (l ∷ ls)
   one_line k offset l ls later n before st done here a c e =
       go (read_line true (k + 1) offset (without_crs l) st) refl (sym (read_line_lem true k offset before st l ls) ∙ e)
     where
-      go : (s : Step) → read_line true (k + 1) offset (without_crs l) st ≡ s → carry_on true (k + 1) (offset + length l + 1) before ls s ≡ accepted parts notes rs
-          → Whole n st done (records_from k (l ∷ ls))
+      go : (s : Step) → read_line true (k + 1) offset (without_crs l) st ≡ s
+          → carry_on true (k + 1) (offset + length l + 1) before ls s ≡ accepted parts notes rs → Whole n st done (records_from k (l ∷ ls))
       go (refused q m f) i e = clash cc
       go (goes r) i e =
           let p : Passed h recs n k st l ls r = passed h recs n k offset st l ls r here i in
@@ -131,19 +136,20 @@ module _ (parts notes : ℕ) (rs : List Record) where
       x : Numbered
       x = record_at k l ls
 
-      header : (s : Step) → on_record false (k + 1) offset (without_crs l) st ≡ s → carry_on true (k + 1) (offset + length l + 1) before ls s ≡ accepted parts notes rs
-          → WholeText (x ∷ records_from (k + 1) ls)
+      header : (s : Step) → on_record false (k + 1) offset (without_crs l) st ≡ s
+          → carry_on true (k + 1) (offset + length l + 1) before ls s ≡ accepted parts notes rs → WholeText (x ∷ records_from (k + 1) ls)
       header (refused q m f) i e = clash cc
       header (goes r) i e =
           let g : Begins x (records_from (k + 1) ls) st r = begins x (records_from (k + 1) ls) offset st r i in
           let none : r.state.bars ≡ 0 = g.bars ∙ b in
           rw (g.row_size, g.noted, none) at
-          (lines_played (header_in (x ∷ records_from (k + 1) ls)) (paths_in (x ∷ records_from (k + 1) ls)) parts notes rs (k + 1) (offset + length l + 1) ls 0
-          (before ++ r.records) r.state [] g.stands (agree_notes before r.records a g.agree) (g.notes ∙ c) e)
+          (lines_played (header_in (x ∷ records_from (k + 1) ls)) (paths_in (x ∷ records_from (k + 1) ls)) parts notes rs
+          (k + 1) (offset + length l + 1) ls 0 (before ++ r.records) r.state [] g.stands (agree_notes before r.records a g.agree) (g.notes ∙ c) e)
       header (ends r) i e = absurd (header_last x (records_from (k + 1) ls) offset st r i)
 
       by_kind_lem : (t : Bool) → is_record (kind_of (without_crs l)) ≡ t
-          → carry_on (is_record (kind_of (without_crs l))) (k + 1) (offset + length l + 1) before ls (read_line false (k + 1) offset (without_crs l) st) ≡ accepted parts notes rs
+          → carry_on (is_record (kind_of (without_crs l))) (k + 1) (offset + length l + 1) before ls
+          (read_line false (k + 1) offset (without_crs l) st) ≡ accepted parts notes rs
           → WholeText (records_from k (l ∷ ls))
       by_kind_lem true i e = rw (records_some k l ls i)
           (header (on_record false (k + 1) offset (without_crs l) st) refl (rw (i, record_line false (k + 1) offset (without_crs l) st i) at e))
@@ -170,7 +176,8 @@ pub accepted_notes : (text : List ℕ) (parts notes : ℕ) (rs : List Record) �
 unfolding read_text account account_by taken_of paths_of records_of
 accepted_notes text parts notes rs = go (leb (length text) 67108864) (eqb (utf8_length text) (length text))
   where
-    go : (a b : Bool) → cond a (cond b (read_lines false 0 0 [] start (lines_of text)) (refusal 2 0 (utf8_length text))) (refusal 1 0 (length text)) ≡ accepted parts notes rs
+    go : (a b : Bool)
+        → cond a (cond b (read_lines false 0 0 [] start (lines_of text)) (refusal 2 0 (utf8_length text))) (refusal 1 0 (length text)) ≡ accepted parts notes rs
         → Accounted text notes rs
     go true true e =
         let w : WholeText parts notes rs (records_from 0 (lines_of text)) = text_played parts notes rs 0 0 (lines_of text) [] start silent refl refl e in

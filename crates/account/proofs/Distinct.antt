@@ -242,5 +242,6 @@ agree_apart : {xs : List Noted} {is : List Item} → Agree xs is → Distinct is
 agree_apart both_end d = tt
 agree_apart (one_more p a) (n, d) = (agree_none p a n, agree_apart a d)
 
-pub notes_never_share : (text : List ℕ) (parts notes : ℕ) (rs : List Record) → read_text text ≡ accepted parts notes rs → Apart NotesShare (notes_of rs)
+pub notes_never_share : (text : List ℕ) (parts notes : ℕ) (rs : List Record) → read_text text ≡ accepted parts notes rs
+    → Apart NotesShare (notes_of rs)
 notes_never_share text parts notes rs e = agree_apart (accepted_notes text parts notes rs e).agree (never_share text parts notes rs e)

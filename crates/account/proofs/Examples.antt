@@ -30,7 +30,14 @@ shown [] = []
 shown (i ∷ is) = i.part ∷ i.voice ∷ i.bar ∷ i.line ∷ i.column ∷ i.length.numerator ∷ i.length.denominator ∷ shown is
 
 unfoldable pub accounted : List ℕ → List ℕ
-unfolding bind head_d begins_with same_bytes join split pieces index_of keep without_crs kind_of is_null is_kern is_star is_empty path_token exchanges_right exchanges_left follows_join gives_of gives before width source_of source look_back origin origin_in trace kerns_before header_part part columns some_below lowest_free kept given voice record_of each is_ordinary is_bar identical_bars repair_of repair_by questions digits number_from number_of exponent_of gcd_in written_at written counts duration_of decimal reciprocal_length added dotted within lower_case upper_case lower_pitch upper_pitch pitch_of altered_by signs twos_complement is_letter joins into runs item_of items_of more first next_item digits_in first_digits has_value is_note account_length bad_length up_to_blank first_sub is_silent given_in marks count_of dots_of rest_of any_of grace_by grace_from heard passes contains trim_start only_signs is_bare leading forbids offer_of peers_from all_offer uniform records_from records_of paths_from paths_of taken_from taken_of kern_columns inferred_of items_from record_items account_from account_by account
+unfolding bind head_d begins_with same_bytes join split pieces index_of keep without_crs kind_of is_null is_kern is_star is_empty path_token exchanges_right
+    exchanges_left follows_join gives_of gives before width source_of source look_back origin origin_in trace kerns_before header_part part columns
+    some_below lowest_free kept given voice record_of each is_ordinary is_bar identical_bars repair_of repair_by questions digits number_from number_of
+    exponent_of gcd_in written_at written counts duration_of decimal reciprocal_length added dotted within lower_case upper_case lower_pitch upper_pitch
+    pitch_of altered_by signs twos_complement is_letter joins into runs item_of items_of more first next_item digits_in first_digits has_value is_note
+    account_length bad_length up_to_blank first_sub is_silent given_in marks count_of dots_of rest_of any_of grace_by grace_from heard passes contains
+    trim_start only_signs is_bare leading forbids offer_of peers_from all_offer uniform records_from records_of paths_from paths_of taken_from taken_of
+    kern_columns inferred_of items_from record_items account_from account_by account
 accounted t = shown (account t)
 
 unfoldable pub table : List Example

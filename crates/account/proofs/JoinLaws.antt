@@ -29,8 +29,8 @@ unfolding kern_columns
 same_kern f g e j [] = refl
 same_kern f g e j (t ∷ ts) = rw (e j, same_kern f g e (suc j) ts)
 
-same_items : (f g : ℕ → Option ℕ) (voice_at : ℕ → ℕ) (all : List (List ℕ)) (kern : List Bool) (k bar : ℕ) → ((j : ℕ) → f j ≡ g j) → (j : ℕ) (ts : List (List ℕ))
-    → items_from f voice_at all kern k bar j ts ≡ items_from g voice_at all kern k bar j ts
+same_items : (f g : ℕ → Option ℕ) (voice_at : ℕ → ℕ) (all : List (List ℕ)) (kern : List Bool) (k bar : ℕ)
+    → ((j : ℕ) → f j ≡ g j) → (j : ℕ) (ts : List (List ℕ)) → items_from f voice_at all kern k bar j ts ≡ items_from g voice_at all kern k bar j ts
 unfolding items_from
 same_items f g voice_at all kern k bar e j [] = refl
 same_items f g voice_at all kern k bar e j (t ∷ ts) = rw (e j, same_items f g voice_at all kern k bar e (suc j) ts)
@@ -41,7 +41,8 @@ module _ (parts parts' : ℕ → ℕ → Option ℕ) (voices : ℕ → ℕ → �
   SameParts n [] = Unit {0}
   SameParts n (t ∷ ts) = ((j : ℕ) → parts n j ≡ parts' n j) × SameParts (suc n) ts
 
-  same_record : (n c : ℕ) (t : Taken) → ((j : ℕ) → parts n j ≡ parts' n j) → (kind : Kind) → items_by parts voices kind n c t ≡ items_by parts' voices kind n c t
+  same_record : (n c : ℕ) (t : Taken) → ((j : ℕ) → parts n j ≡ parts' n j) → (kind : Kind)
+      → items_by parts voices kind n c t ≡ items_by parts' voices kind n c t
   unfolding items_of
   same_record n c t e Empty = refl
   same_record n c t e Reference = refl
@@ -60,7 +61,8 @@ module _ (parts parts' : ℕ → ℕ → Option ℕ) (voices : ℕ → ℕ → �
 -- ---- the traces
 
 -- the row under which the m-th of some taken records stands
-row_under : (h : List Bool) (recs : ℕ → Rec) (ts : List Taken) (n m : ℕ) → UnderRows h recs n ts → m < length ts → (row : List Spine) × At h recs (n + m) row
+row_under : (h : List Bool) (recs : ℕ → Rec) (ts : List Taken) (n m : ℕ) → UnderRows h recs n ts → m < length ts
+    → (row : List Spine) × At h recs (n + m) row
 row_under h recs [] n m rows l = absurd (omega arith)
 row_under h recs (t ∷ ts) n zero (here, rows) l = let z : n + 0 ≡ n = omega arith in rw z here
 row_under h recs (t ∷ ts) n (suc m) (here, rows) l = let z : n + suc m ≡ suc n + m = omega arith in rw z (row_under h recs ts (suc n) m rows (omega arith))

@@ -225,7 +225,10 @@ module _ (x : Numbered) (rs : List Numbered) (offset : ℕ) (st : State) where
   unfolding read_header
   begins r e = subst (Begins x rs st) (go (not (each is_exclusive (tokens_of x.bytes))) (ltb 256 (length (tokens_of x.bytes))) (not (any_kern kerns_of)) e) header_begins
     where
-      go : (a b c : Bool) → cond a (refused 3 x.number 0) (cond b (refused 4 x.number (length (tokens_of x.bytes))) (cond c (refused 5 x.number 0) (goes headed_result))) ≡ goes r → headed_result ≡ r
+      go : (a b c : Bool)
+          → cond a (refused 3 x.number 0)
+          (cond b (refused 4 x.number (length (tokens_of x.bytes))) (cond c (refused 5 x.number 0) (goes headed_result))) ≡ goes r
+          → headed_result ≡ r
       go true b c e = cc
       go false true c e = cc
       go false false true e = cc
@@ -235,7 +238,9 @@ module _ (x : Numbered) (rs : List Numbered) (offset : ℕ) (st : State) where
   unfolding read_header
   header_last r = go (not (each is_exclusive (tokens_of x.bytes))) (ltb 256 (length (tokens_of x.bytes))) (not (any_kern kerns_of))
     where
-      go : (a b c : Bool) → cond a (refused 3 x.number 0) (cond b (refused 4 x.number (length (tokens_of x.bytes))) (cond c (refused 5 x.number 0) (goes headed_result))) ≡ ends r → ⊥
+      go : (a b c : Bool)
+          → cond a (refused 3 x.number 0)
+          (cond b (refused 4 x.number (length (tokens_of x.bytes))) (cond c (refused 5 x.number 0) (goes headed_result))) ≡ ends r → ⊥
       go true b c e = clash cc
       go false true c e = clash cc
       go false false true e = clash cc

@@ -166,7 +166,9 @@ module _ (h : List Bool) (recs : ℕ → Rec) where
   module _ (n k : ℕ) (st : State) (r : Result) where
     star_took : (ts : List (List ℕ)) (us : List Token) → map (λ (t : Token). t.bytes) us ≡ ts → read_star k us st ≡ goes r → TookFrom Star n k ts st r
     unfolding read_star
-    star_took ts us e g = go (step_row st.row (map (λ (t : Token). path_token t.bytes) us)) (ap (λ (l : List PathToken). step_row st.row l) (paths us) ∙ ap (λ (l : List (List ℕ)). step_row st.row (map path_token l)) e) g
+    star_took ts us e g =
+        go (step_row st.row (map (λ (t : Token). path_token t.bytes) us))
+        (ap (λ (l : List PathToken). step_row st.row l) (paths us) ∙ ap (λ (l : List (List ℕ)). step_row st.row (map path_token l)) e) g
       where
         c : Result
         c = read_columns (map (λ (t : Token). path_token t.bytes) us) k 0 st.row us st
@@ -306,7 +308,8 @@ module _ (h : List Bool) (recs : ℕ → Rec) where
     pub rest_is : rest n st (x ∷ rs) ≡ items ++ rest (suc n) r.state rs
     pub rows : UnderRows (suc n) (taken_from (length r.state.row) rs) → UnderRows n (taken_from (length st.row) (x ∷ rs))
 
-  module _ (n : ℕ) (st : State) (x : Numbered) (rs : List Numbered) (r : Result) (here : Stands n st (x ∷ rs)) (is_record_lem : is_record (kind_of x.bytes) ≡ true) where
+  module _ (n : ℕ) (st : State) (x : Numbered) (rs : List Numbered) (r : Result) (here : Stands n st (x ∷ rs))
+      (is_record_lem : is_record (kind_of x.bytes) ≡ true) where
     went_by : {p : Repair} → 0 < length st.row → repaired_of (length st.row) (tokens_of x.bytes) ≡ Ok p
         → TookFrom h recs (kind_of x.bytes) n x.number (repaired (length st.row) (tokens_of x.bytes)) st r → Went n st x rs r
     unfolding account_from
@@ -326,7 +329,7 @@ module _ (h : List Bool) (recs : ℕ → Rec) where
         at' = reads_on h recs n st.row here.at x.bytes l is_record_lem e first ∙ ap reading t.row_is
 
         one : taken_from (length st.row) (x ∷ rs)
-            ≡ record { number = x.number; kind = kind_of x.bytes; tokens = repaired (length st.row) (tokens_of x.bytes) } ∷ taken_from (length r.state.row) rs
+            ≡ taken_on h recs (kind_of x.bytes) x.number (repaired (length st.row) (tokens_of x.bytes)) ∷ taken_from (length r.state.row) rs
         one = taken_one x rs st.row r.state.row l (next_width h recs n x.bytes st.row r.state.row here.at at' first)
 
     went_even : {p : Repair} (offset : ℕ) → 0 < length st.row → repaired_of (length st.row) (tokens_of x.bytes) ≡ Ok p
@@ -349,7 +352,8 @@ module _ (h : List Bool) (recs : ℕ → Rec) where
         a : Adds st q []
         a = repair_adds p k offset x.bytes st
 
-        parts : (u : Result) × (by_kind kind k (placed offset ts) q.state ≡ goes u) × (◌≡◌ {A = Result} (record { state = u.state; records = q.records ++ u.records }) r)
+        parts : (u : Result) × (by_kind kind k (placed offset ts) q.state ≡ goes u)
+            × (◌≡◌ {A = Result} (record { state = u.state; records = q.records ++ u.records }) r)
         parts = behind_goes q (by_kind kind k (placed offset ts)) r g
 
         took : TookFrom h recs kind n k ts q.state parts.0
@@ -369,7 +373,8 @@ module _ (h : List Bool) (recs : ℕ → Rec) where
         by_row [] e g = clash cc
         by_row (s ∷ row) e g =
             even (omega (arith, ap length e)) (repaired_of (length st.row) (tokens_of x.bytes)) refl
-            (subst (λ (w : ℕ). by_repair (repaired_of w (tokens_of x.bytes)) x.number offset x.bytes (placed offset (repaired w (tokens_of x.bytes))) st ≡ goes r) (sym (ap length e)) g)
+            (subst (λ (w : ℕ). by_repair (repaired_of w (tokens_of x.bytes)) x.number offset x.bytes (placed offset (repaired w (tokens_of x.bytes))) st ≡ goes r)
+            (sym (ap length e)) g)
 
     -- with no active spine left the reading ends, and so do the records that are taken
     pub went_last : (offset : ℕ) → on_row st.row x.number offset x.bytes st ≡ ends r

@@ -112,8 +112,8 @@ module _ (h : List Bool) (recs : ℕ → Rec) where
         go Data i b e = rw e
 
   -- the next row, where it is reached, is as wide as the record makes it
-  pub next_width : (n : ℕ) (bytes : List ℕ) (row after : List Spine) → At h recs n row → At h recs (suc n) after → recs n ≡ record_of (length row) bytes
-      → length after ≡ width_in (record_of (length row) bytes) (length row)
+  pub next_width : (n : ℕ) (bytes : List ℕ) (row after : List Spine) → At h recs n row → At h recs (suc n) after
+      → recs n ≡ record_of (length row) bytes → length after ≡ width_in (record_of (length row) bytes) (length row)
   unfolding columns
   next_width n bytes row after at at' first =
       (demand h recs).size (suc n) after at' ∙ ap (λ (r : Rec). width_in r (columns h recs n)) first
@@ -165,15 +165,16 @@ module _ (part_at_text : ℕ → Option ℕ) (voice_at_text : ℕ → ℕ) (m : 
             (λ j p v x. let y : suc i + j ≡ i + suc j = omega arith in ap voice_at_text y ∙ w (suc j) p v x),
       )
 
-pub row_columns : (h : List Bool) (recs : ℕ → Rec) (n : ℕ) (row : List Spine) → At h recs n row → Columns (part h recs n) (voice h recs n) (length (fresh_parts 0 h)) 0 row
+pub row_columns : (h : List Bool) (recs : ℕ → Rec) (n : ℕ) (row : List Spine) → At h recs n row
+    → Columns (part h recs n) (voice h recs n) (length (fresh_parts 0 h)) 0 row
 row_columns h recs n row at =
     columns_are (part h recs n) (voice h recs n) (length (fresh_parts 0 h)) (λ j p. part_bound h recs n j p) 0 row
     (λ j. let z : j ≡ 0 + j = omega arith in (demand h recs).in_part n row at j ∙ ap (part h recs n) z) ((demand h recs).voiced n row at)
     (λ j p v x. let z : 0 + j ≡ j = omega arith in ap (voice h recs n) z ∙ traced_voice h recs n row at j p v x)
 
 -- the kern columns, of as many tokens as the row has spines
-pub kern_columns_lem : (part_at_text : ℕ → Option ℕ) (voice_at_text : ℕ → ℕ) (m i : ℕ) (row : List Spine) (ts : List (List ℕ)) → length row ≡ length ts
-    → Columns part_at_text voice_at_text m i row → kern_columns part_at_text i ts ≡ map is_kern_spine row
+pub kern_columns_lem : (part_at_text : ℕ → Option ℕ) (voice_at_text : ℕ → ℕ) (m i : ℕ) (row : List Spine) (ts : List (List ℕ))
+    → length row ≡ length ts → Columns part_at_text voice_at_text m i row → kern_columns part_at_text i ts ≡ map is_kern_spine row
 unfolding kern_columns
 kern_columns_lem f g m i [] [] z c = refl
 kern_columns_lem f g m i [] (t ∷ ts) z c = absurd (omega arith)
