@@ -24,7 +24,7 @@ use Rattle.account.specs.Rows.{Numbered, is_record, records_from, records_of, he
 use Rattle.account.specs.Account.{Item, account_from, account_by, account}
 use Rattle.account.specs.Agree.{Agree, both_end}
 use Rattle.account.proofs.ResultLaws.{Adds, notes_append, agree_notes}
-use Rattle.account.proofs.RecordLaws.{Stands, rest, UnderRows, closes}
+use Rattle.account.proofs.RecordLaws.{Stands, rest, OnRows, closes}
 use Rattle.account.proofs.LineLaws.{record_at, records_some, records_none, other_line, record_line, carry_on, read_line_lem, Passed, passed, Last, passed_last, counted, paths_in, Begins, begins, header_last}
 
 -- the notes that a text comes to, and their number
@@ -82,9 +82,9 @@ finish_played begun before st {items} {parts} {notes} {rs} a c = go begun (eqb s
 -- ---- the lines behind the header
 
 module _ (h : List Bool) (recs : ℕ → Rec) (parts notes : ℕ) (rs : List Record) where
-  -- the reading from these lines on plays what the text says from there on, behind what was played, and each record that is taken stands under a row
+  -- the reading from these lines on plays what the text says from there on, behind what was played, and each taken record stands over a row
   abbrev Whole : ℕ → State → List Item → List Numbered → Type 0
-  Whole n st done later = Played (done ++ rest h recs n st later) notes rs × UnderRows h recs n (taken_from (length st.row) later)
+  Whole n st done later = Played (done ++ rest h recs n st later) notes rs × OnRows h recs n (taken_from (length st.row) later)
 
   abbrev FromHere : ℕ → ℕ → List (List ℕ) → Type 0
   FromHere k offset ls = (n : ℕ) (before : List Record) (st : State) (done : List Item) → Stands h recs n st (records_from k ls)
@@ -120,7 +120,7 @@ account_in rs =
     account_from (part (header_in rs) (paths_in rs)) (voice (header_in rs) (paths_in rs)) 0 0 false (taken_from (length (header_in rs)) (later_in rs))
 
 abbrev pub rows_in : List Numbered → Type 0
-rows_in rs = UnderRows (header_in rs) (paths_in rs) 0 (taken_from (length (header_in rs)) (later_in rs))
+rows_in rs = OnRows (header_in rs) (paths_in rs) 0 (taken_from (length (header_in rs)) (later_in rs))
 
 module _ (parts notes : ℕ) (rs : List Record) where
   abbrev WholeText : List Numbered → Type 0
@@ -169,8 +169,8 @@ module _ (parts notes : ℕ) (rs : List Record) where
 pub record Accounted (text : List ℕ) (notes : ℕ) (rs : List Record) : Type 0 where
   pub agree : Agree (notes_of rs) (account text)
   pub count : notes ≡ length (account text)
-  -- each taken record stands under a row that the paths reach
-  pub rows : UnderRows (header_of text) (paths_of text) 0 (taken_of text)
+  -- each taken record stands over a row that the paths reach
+  pub rows : OnRows (header_of text) (paths_of text) 0 (taken_of text)
 
 pub accepted_notes : (text : List ℕ) (parts notes : ℕ) (rs : List Record) → read_text text ≡ accepted parts notes rs → Accounted text notes rs
 unfolding read_text account account_by taken_of paths_of records_of

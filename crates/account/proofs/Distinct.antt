@@ -28,7 +28,7 @@ use Rattle.reading.specs.Text.{accepted, read_text}
 use Rattle.account.specs.Rows.{Numbered, is_record, records_from, records_of, header_of, later_in, later_of, paths_of, Taken, taken_from, taken_of}
 use Rattle.account.specs.Account.{Item, inferred_of, item_of, item_in, items_from, closings_after, noted_after, items_of, account_from, account_by, account}
 use Rattle.account.specs.Agree.{Share, NoneOf, Apart, NotesShare, Distinct, Plays, Agree, both_end, one_more}
-use Rattle.account.proofs.RecordLaws.{items_at, UnderRows}
+use Rattle.account.proofs.RecordLaws.{items_at, OnRows}
 use Rattle.account.proofs.Accepted.{accepted_notes}
 
 -- an item shares with none of a list
@@ -208,7 +208,7 @@ module _ (h : List Bool) (recs : ℕ → Rec) where
       (line_above k t.number (items_at h recs t.kind n c t) l (by_line_lem t.kind n c t))
       (above_less k t.number (items_behind n c b t ts) (omega arith) (account_above ts (suc n) t.number _ _ u))
 
-  account_distinct : (ts : List Taken) (n k c : ℕ) (b : Bool) → TakenRising k ts → UnderRows h recs n ts → Distinct (items_after n c b ts)
+  account_distinct : (ts : List Taken) (n k c : ℕ) (b : Bool) → TakenRising k ts → OnRows h recs n ts → Distinct (items_after n c b ts)
   unfolding account_from
   account_distinct [] n k c b u rows = tt
   account_distinct (t ∷ ts) n k c b (l, u) ((row, at), rows) =

@@ -19,7 +19,7 @@ use Rattle.sheet.specs.Record.{Record}
 use Rattle.reading.specs.Text.{accepted, read_text}
 use Rattle.account.specs.Rows.{header_of, paths_of, Taken, taken_of}
 use Rattle.account.specs.Account.{kern_columns, items_from, items_of, items_by, account_from, account_by, account}
-use Rattle.account.proofs.RecordLaws.{UnderRows}
+use Rattle.account.proofs.RecordLaws.{OnRows}
 use Rattle.account.proofs.Accepted.{accepted_notes}
 
 -- ---- what the text says, by parts that are the same
@@ -60,12 +60,12 @@ module _ (parts parts' : ℕ → ℕ → Option ℕ) (voices : ℕ → ℕ → �
 
 -- ---- the traces
 
--- the row under which the m-th of some taken records stands
-row_under : (h : List Bool) (recs : ℕ → Rec) (ts : List Taken) (n m : ℕ) → UnderRows h recs n ts → m < length ts
+-- the row over which the m-th of some taken records stands
+row_at : (h : List Bool) (recs : ℕ → Rec) (ts : List Taken) (n m : ℕ) → OnRows h recs n ts → m < length ts
     → (row : List Spine) × At h recs (n + m) row
-row_under h recs [] n m rows l = absurd (omega arith)
-row_under h recs (t ∷ ts) n zero (here, rows) l = let z : n + 0 ≡ n = omega arith in rw z here
-row_under h recs (t ∷ ts) n (suc m) (here, rows) l = let z : n + suc m ≡ suc n + m = omega arith in rw z (row_under h recs ts (suc n) m rows (omega arith))
+row_at h recs [] n m rows l = absurd (omega arith)
+row_at h recs (t ∷ ts) n zero (here, rows) l = let z : n + 0 ≡ n = omega arith in rw z here
+row_at h recs (t ∷ ts) n (suc m) (here, rows) l = let z : n + suc m ≡ suc n + m = omega arith in rw z (row_at h recs ts (suc n) m rows (omega arith))
 
 module _ (text : List ℕ) (parts notes : ℕ) (rs : List Record) (is : read_text text ≡ accepted parts notes rs) where
   pub one_origin : (n : ℕ) → n < length (taken_of text) → (j : ℕ) (e : Option ℕ) → MayEnd (paths_of text) n j e
@@ -73,7 +73,7 @@ module _ (text : List ℕ) (parts notes : ℕ) (rs : List Record) (is : read_tex
   one_origin n l j e m =
       let z : 0 + n ≡ n = omega arith in
       let r : (row : List Spine) × At (header_of text) (paths_of text) n row =
-      rw z at (row_under (header_of text) (paths_of text) (taken_of text) 0 n (accepted_notes text parts notes rs is).rows l) in
+      rw z at (row_at (header_of text) (paths_of text) (taken_of text) 0 n (accepted_notes text parts notes rs is).rows l) in
       (demand (header_of text) (paths_of text)).one_origin n r.0 r.1 j e m
 
   -- where each column's trace may end
@@ -81,7 +81,7 @@ module _ (text : List ℕ) (parts notes : ℕ) (rs : List Record) (is : read_tex
     abbrev by_ends : ℕ → ℕ → Option ℕ
     by_ends n j = bind (ends n j) (header_part (header_of text))
 
-    same_parts : (ts : List Taken) (n : ℕ) → UnderRows (header_of text) (paths_of text) n ts
+    same_parts : (ts : List Taken) (n : ℕ) → OnRows (header_of text) (paths_of text) n ts
         → SameParts by_ends (part (header_of text) (paths_of text)) (voice (header_of text) (paths_of text)) n ts
     same_parts [] n rows = tt
     same_parts (t ∷ ts) n ((row, at), rows) =

@@ -28,7 +28,7 @@ use Rattle.account.specs.Rows.{Numbered, is_record, records_from, header_in, lat
 use Rattle.account.specs.Account.{Item}
 use Rattle.account.specs.Agree.{Agree}
 use Rattle.account.proofs.ResultLaws.{Adds, quiet_adds, reference_adds, others_add}
-use Rattle.account.proofs.RecordLaws.{Stands, rest, UnderRows, Went, went, went_last}
+use Rattle.account.proofs.RecordLaws.{Stands, rest, OnRows, Went, went, went_last}
 use Rattle.reading.proofs.StateLaws.{fresh_noted}
 
 -- ---- the records among lines
@@ -114,8 +114,8 @@ module _ (h : List Bool) (recs : ℕ → Rec) where
     pub notes : r.state.notes ≡ st.notes + length items
     pub stands : Stands h recs (counted l n) r.state (records_from (k + 1) ls)
     pub rest_is : rest h recs n st (records_from k (l ∷ ls)) ≡ items ++ rest h recs (counted l n) r.state (records_from (k + 1) ls)
-    pub rows : UnderRows h recs (counted l n) (taken_from (length r.state.row) (records_from (k + 1) ls))
-        → UnderRows h recs n (taken_from (length st.row) (records_from k (l ∷ ls)))
+    pub rows : OnRows h recs (counted l n) (taken_from (length r.state.row) (records_from (k + 1) ls))
+        → OnRows h recs n (taken_from (length st.row) (records_from k (l ∷ ls)))
 
   -- a result that adds nothing leaves the reading where it stands
   pub stands_still : {n : ℕ} {st : State} {rs : List Numbered} (r : Result) → Adds st r [] → Stands h recs n st rs
@@ -159,7 +159,7 @@ module _ (h : List Bool) (recs : ℕ → Rec) where
 
     -- and where the reading ends, nothing is taken any more
     abbrev pub Last : Type 0
-    Last = Adds st r [] × (rest h recs n st (records_from k (l ∷ ls)) ≡ []) × UnderRows h recs n (taken_from (length st.row) (records_from k (l ∷ ls)))
+    Last = Adds st r [] × (rest h recs n st (records_from k (l ∷ ls)) ≡ []) × OnRows h recs n (taken_from (length st.row) (records_from k (l ∷ ls)))
 
     pub passed_last : read_line true (k + 1) offset (without_crs l) st ≡ ends r → Last
     passed_last e = go (is_record (kind_of (without_crs l))) refl

@@ -294,10 +294,10 @@ module _ (h : List Bool) (recs : ℕ → Rec) where
   abbrev pub rest : ℕ → State → List Numbered → List Item
   rest n st rs = account_from (part h recs) (voice h recs) n st.bars (any_noted st.parts) (taken_from (length st.row) rs)
 
-  -- each of these taken records, the first of them the n-th behind the header, stands under a row that the paths reach
-  abbrev pub UnderRows : ℕ → List Taken → Type 0
-  UnderRows n [] = Unit {0}
-  UnderRows n (t ∷ ts) = ((row : List Spine) × At h recs n row) × UnderRows (suc n) ts
+  -- each of these taken records, the first of them the n-th behind the header, stands over a row that the paths reach
+  abbrev pub OnRows : ℕ → List Taken → Type 0
+  OnRows n [] = Unit {0}
+  OnRows n (t ∷ ts) = ((row : List Spine) × At h recs n row) × OnRows (suc n) ts
 
   -- the reading went past a record: its note tokens are played
   pub record Went (n : ℕ) (st : State) (x : Numbered) (rs : List Numbered) (r : Result) : Type 0 where
@@ -306,7 +306,7 @@ module _ (h : List Bool) (recs : ℕ → Rec) where
     pub notes : r.state.notes ≡ st.notes + length items
     pub stands : Stands (suc n) r.state rs
     pub rest_is : rest n st (x ∷ rs) ≡ items ++ rest (suc n) r.state rs
-    pub rows : UnderRows (suc n) (taken_from (length r.state.row) rs) → UnderRows n (taken_from (length st.row) (x ∷ rs))
+    pub rows : OnRows (suc n) (taken_from (length r.state.row) rs) → OnRows n (taken_from (length st.row) (x ∷ rs))
 
   module _ (n : ℕ) (st : State) (x : Numbered) (rs : List Numbered) (r : Result) (here : Stands n st (x ∷ rs))
       (is_record_lem : is_record (kind_of x.bytes) ≡ true) where
@@ -378,7 +378,7 @@ module _ (h : List Bool) (recs : ℕ → Rec) where
 
     -- with no active spine left the reading ends, and so do the records that are taken
     pub went_last : (offset : ℕ) → on_row st.row x.number offset x.bytes st ≡ ends r
-        → Adds st r [] × (rest n st (x ∷ rs) ≡ []) × UnderRows n (taken_from (length st.row) (x ∷ rs))
+        → Adds st r [] × (rest n st (x ∷ rs) ≡ []) × OnRows n (taken_from (length st.row) (x ∷ rs))
     unfolding taken_from account_from
     went_last offset = by_row st.row refl
       where
@@ -396,7 +396,7 @@ module _ (h : List Bool) (recs : ℕ → Rec) where
             never_ends h recs (kind_of x.bytes) n x.number q.state (rw a.row here.at) (a.size ∙ here.size) us (rw a.row (z p v)) u.0 u.1
 
         by_row : (row : List Spine) → st.row ≡ row → on_row row x.number offset x.bytes st ≡ ends r
-            → Adds st r [] × (rest n st (x ∷ rs) ≡ []) × UnderRows n (taken_from (length st.row) (x ∷ rs))
+            → Adds st r [] × (rest n st (x ∷ rs) ≡ []) × OnRows n (taken_from (length st.row) (x ∷ rs))
         by_row [] e g = (subst (λ (u : Result). Adds st u []) (result _ g) (notify_adds 3 x.number 0 _ st), rw e, rw e tt)
         by_row (s ∷ row) e g =
             absurd (even (placed offset (repaired (length st.row) (tokens_of x.bytes))) (repaired_of (length st.row) (tokens_of x.bytes)) refl
