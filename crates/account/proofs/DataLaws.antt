@@ -1,7 +1,7 @@
 -- Data records: the NOTEs that the reading gives play the note tokens of the record, column by column.
 use Prim.Native.Nat.{ℕ, zero, suc, ◌+◌, ◌/◌, ◌%◌, ◌<◌}
 use native.Mathlib.Omega.{arith}
-use mathlib.Core.Bool.{Bool, true, false, cond, ◌&&◌, beq}
+use mathlib.Core.Bool.{Bool, true, false, cond, ◌&&◌, beq, or-true}
 use mathlib.Core.List.{List, [], ◌∷◌, ◌++◌, map}
 use mathlib.Core.Option.{Option, none, some}
 use mathlib.Core.Path.{◌≡◌, refl, sym, ap, subst, ◌∙◌}
@@ -25,7 +25,7 @@ use Rattle.reading.specs.Bars.{any_noted}
 use Rattle.reading.specs.Notes.{bit, flags_of, sounded, note_record, add_note, behind, by_outcome, signify, inferred_for, read_token_at, read_spine, and_then, read_tokens}
 use Rattle.account.specs.Account.{Item, inferred_of, item_of, item_in, items_from}
 use Rattle.account.specs.Agree.{played_length, both_end, one_more}
-use Rattle.account.proofs.ResultLaws.{Adds, quiet_adds, then_adds, notify_adds, signifiers_adds, or_true}
+use Rattle.account.proofs.ResultLaws.{Adds, quiet_adds, then_adds, notify_adds, signifiers_adds}
 
 -- ---- the grace bit of the flags
 
@@ -105,7 +105,7 @@ set_sounds : (ps : List Part) (p : ℕ) (x : Part) → x.noted ≡ true → p < 
 unfolding any_noted
 set_sounds [] p x e l = absurd (omega arith)
 set_sounds (q ∷ ps) zero x e l = rw e
-set_sounds (q ∷ ps) (suc p) x e l = rw (set_sounds ps p x e (omega arith)) (or_true q.noted)
+set_sounds (q ∷ ps) (suc p) x e l = rw (set_sounds ps p x e (omega arith)) (or-true q.noted)
 
 module _ (part_at_text : ℕ → Option ℕ) (voice_at_text : ℕ → ℕ) (all : List (List ℕ)) (kern : List Bool) (k bar : ℕ) where
   abbrev item_at : ℕ → ℕ → List ℕ → Item
@@ -136,7 +136,7 @@ module _ (part_at_text : ℕ → Option ℕ) (voice_at_text : ℕ → ℕ) (all 
       row = refl;
       bars = refl;
       notes = omega arith;
-      noted = set_sounds st.parts p (sounded (part_at st p) v t.bytes) refl l ∙ sym (or_true (any_noted st.parts));
+      noted = set_sounds st.parts p (sounded (part_at st p) v t.bytes) refl l ∙ sym (or-true (any_noted st.parts));
       size = length-set st.parts p (sounded (part_at st p) v t.bytes);
     }
 
@@ -204,10 +204,15 @@ module _ (part_at_text : ℕ → Option ℕ) (voice_at_text : ℕ → ℕ) (all 
   spine_adds (Branch p) i t st b c = absurd c
   spine_adds Outside i t st b c = rw c (quiet_adds st)
 
-  pub tokens_add : (i : ℕ) (row : List Spine) (ts : List Token) (st : State) → st.bars + 1 ≡ bar → Columns part_at_text voice_at_text (length st.parts) i row
-      → StepAdds st (read_tokens all kern k i row ts st) (items_from part_at_text voice_at_text all kern k bar i row (map (λ (t : Token). t.bytes) ts))
+  -- as many tokens as the row has spines
+  pub tokens_add : (i : ℕ) (row : List Spine) (ts : List Token) (st : State) → length row ≡ length ts → st.bars + 1 ≡ bar
+      → Columns part_at_text voice_at_text (length st.parts) i row
+      → StepAdds st (read_tokens all kern k i row ts st) (items_from part_at_text voice_at_text all kern k bar i (map (λ (t : Token). t.bytes) ts))
   unfolding read_tokens items_from
-  tokens_add i [] ts st b c = quiet_adds st
-  tokens_add i (s ∷ row) [] st b c = quiet_adds st
-  tokens_add i (s ∷ row) (t ∷ ts) st b (c, cs) = then_step _ _ (read_spine s all kern k i t st) (read_tokens all kern k (suc i) row ts) (spine_adds s i t st b c)
-      (λ r a. tokens_add (suc i) row ts r.state (ap (λ (m : ℕ). m + 1) a.bars ∙ b) (subst (λ (m : ℕ). Columns part_at_text voice_at_text m (suc i) row) (sym a.size) cs))
+  tokens_add i [] [] st z b c = quiet_adds st
+  tokens_add i [] (t ∷ ts) st z b c = absurd (omega arith)
+  tokens_add i (s ∷ row) [] st z b c = absurd (omega arith)
+  tokens_add i (s ∷ row) (t ∷ ts) st z b (c, cs) =
+      then_step _ _ (read_spine s all kern k i t st) (read_tokens all kern k (suc i) row ts) (spine_adds s i t st b c)
+      (λ r a. tokens_add (suc i) row ts r.state (omega arith) (ap (λ (m : ℕ). m + 1) a.bars ∙ b)
+      (subst (λ (m : ℕ). Columns part_at_text voice_at_text m (suc i) row) (sym a.size) cs))

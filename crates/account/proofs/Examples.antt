@@ -7,13 +7,9 @@ use Rattle.slices.specs.Compare.{begins_with, same_bytes}
 use Rattle.slices.specs.Split.{join, split, pieces, index_of}
 use Rattle.lines.specs.Lines.{keep, without_crs, kind_of}
 use Rattle.lines.specs.Tokens.{is_null, is_kern, is_star, is_empty}
-use Rattle.paths.specs.Joins.{strays, mixed_from}
-use Rattle.paths.specs.Row.{part_at, branch_from, advance}
-use Rattle.paths.specs.Text.{header_from}
 use Rattle.paths.specs.Token.{path_token}
 use Rattle.paths.specs.Trace.{exchanges_right, exchanges_left, follows_join, gives_of, gives, before, width, source_of, source, look_back, origin, origin_in, trace, kerns_before, header_part, part, columns}
 use Rattle.paths.specs.TracedVoice.{some_below, lowest_free, kept, given, voice}
-use Rattle.paths.specs.Voices.{holds, lowest, with_voice, give_voices, voice_row, step_row}
 use Rattle.repair.specs.Record.{record_of}
 use Rattle.repair.specs.Repair.{each, is_ordinary, is_bar, identical_bars, repair_of, repair_by, questions}
 use Rattle.duration.specs.Duration.{digits, number_from, number_of, exponent_of, gcd_in, written_at, written, counts, duration_of}
@@ -26,7 +22,7 @@ use Rattle.notation.specs.Bytes.{contains, trim_start}
 use Rattle.peers.specs.Peers.{only_signs, is_bare, leading, forbids, offer_of, peers_from, all_offer, uniform}
 use Rattle.reading.proofs.Texts.{Example, ◌yields◌, agree}
 use Rattle.account.specs.Rows.{records_from, records_of, paths_from, paths_of, taken_from, taken_of}
-use Rattle.account.specs.Account.{Item, kern_columns, inferred_of, items_from, items_of as itemsOf-account, account_from, account}
+use Rattle.account.specs.Account.{Item, kern_columns, inferred_of, items_from, items_of as record_items, account_from, account_by, account}
 
 -- of each note token part, voice, bar, line, column, and length
 abbrev shown : List Item → List ℕ
@@ -34,7 +30,14 @@ shown [] = []
 shown (i ∷ is) = i.part ∷ i.voice ∷ i.bar ∷ i.line ∷ i.column ∷ i.length.numerator ∷ i.length.denominator ∷ shown is
 
 unfoldable pub accounted : List ℕ → List ℕ
-unfolding bind head_d begins_with same_bytes join split pieces index_of keep without_crs kind_of is_null is_kern is_star is_empty branch_from part_at strays mixed_from advance header_from path_token exchanges_right exchanges_left follows_join gives_of gives before width source_of source look_back origin origin_in trace kerns_before header_part part columns some_below lowest_free kept given voice holds lowest with_voice give_voices voice_row step_row record_of each is_ordinary is_bar identical_bars repair_of repair_by questions digits number_from number_of exponent_of gcd_in written_at written counts duration_of decimal reciprocal_length added dotted within lower_case upper_case lower_pitch upper_pitch pitch_of altered_by signs twos_complement is_letter joins into runs item_of items_of more first next_item digits_in first_digits has_value is_note account_length bad_length up_to_blank first_sub is_silent given_in marks count_of dots_of rest_of any_of grace_by grace_from heard passes contains trim_start only_signs is_bare leading forbids offer_of peers_from all_offer uniform records_from records_of paths_from paths_of taken_from taken_of kern_columns inferred_of items_from itemsOf-account account_from account
+unfolding bind head_d begins_with same_bytes join split pieces index_of keep without_crs kind_of is_null is_kern is_star is_empty path_token exchanges_right
+    exchanges_left follows_join gives_of gives before width source_of source look_back origin origin_in trace kerns_before header_part part columns
+    some_below lowest_free kept given voice record_of each is_ordinary is_bar identical_bars repair_of repair_by questions digits number_from number_of
+    exponent_of gcd_in written_at written counts duration_of decimal reciprocal_length added dotted within lower_case upper_case lower_pitch upper_pitch
+    pitch_of altered_by signs twos_complement is_letter joins into runs item_of items_of more first next_item digits_in first_digits has_value is_note
+    account_length bad_length up_to_blank first_sub is_silent given_in marks count_of dots_of rest_of any_of grace_by grace_from heard passes contains
+    trim_start only_signs is_bare leading forbids offer_of peers_from all_offer uniform records_from records_of paths_from paths_of taken_from taken_of
+    kern_columns inferred_of items_from record_items account_from account_by account
 accounted t = shown (account t)
 
 unfoldable pub table : List Example

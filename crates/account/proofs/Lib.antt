@@ -9,4 +9,5 @@ pub mod PlaceLaws
 pub mod RefusalLaws
 pub mod Question
 pub mod Distinct
+pub mod JoinLaws
 pub mod Examples

@@ -1,7 +1,7 @@
 -- One line of a text: what the reading goes on with, and what the text says from there on.
 use Prim.Native.Nat.{ℕ, suc, ◌+◌}
 use native.Mathlib.Omega.{arith}
-use mathlib.Core.Bool.{Bool, true, false, cond, not, ◌||◌}
+use mathlib.Core.Bool.{Bool, true, false, cond, not, ◌||◌, or-false}
 use mathlib.Core.List.{List, [], ◌∷◌, ◌++◌, map}
 use mathlib.Core.Path.{◌≡◌, refl, sym, ap, subst, ◌∙◌}
 use lib.Dec.{ltb}
@@ -22,13 +22,13 @@ use Rattle.reading.specs.State.{State, Result, Step, refused, goes, ends, with_r
 use Rattle.reading.specs.Notices.{quiet, placed}
 use Rattle.reading.specs.Header.{fresh_parts, any_kern, notice_others, read_reference, read_header}
 use Rattle.reading.specs.Bars.{any_noted}
-use Rattle.reading.specs.Records.{by_line, on_record, read_line, is_record as isRecordRead}
+use Rattle.reading.specs.Records.{by_line, on_record, read_line, is_record as is_record_read}
 use Rattle.reading.specs.Text.{Answer, refusal, finish, read_lines}
-use Rattle.account.specs.Rows.{Numbered, is_record, records_from, header_in, later_in, paths_from}
+use Rattle.account.specs.Rows.{Numbered, is_record, records_from, header_in, later_in, paths_from, taken_from}
 use Rattle.account.specs.Account.{Item}
 use Rattle.account.specs.Agree.{Agree}
-use Rattle.account.proofs.ResultLaws.{Adds, quiet_adds, reference_adds, others_add, or-false}
-use Rattle.account.proofs.RecordLaws.{Stands, rest, Went, went, went_last}
+use Rattle.account.proofs.ResultLaws.{Adds, quiet_adds, reference_adds, others_add}
+use Rattle.account.proofs.RecordLaws.{Stands, rest, OnRows, Went, went, went_last}
 use Rattle.reading.proofs.StateLaws.{fresh_noted}
 
 -- ---- the records among lines
@@ -78,7 +78,7 @@ carry_on begun k offset before ls (refused n m f) = refusal n m f
 carry_on begun k offset before ls (goes r) = read_lines begun k offset (before ++ r.records) r.state ls
 carry_on begun k offset before ls (ends r) = finish true (before ++ r.records) r.state
 
-pub same_record : (kind : Kind) → isRecordRead kind ≡ is_record kind
+pub same_record : (kind : Kind) → is_record_read kind ≡ is_record kind
 same_record Empty = refl
 same_record Reference = refl
 same_record Comment = refl
@@ -94,9 +94,9 @@ read_line_lem begun k offset before st l ls = rw (← same_record (kind_of (with
   where
     go : (s : Step) → ◌≡◌ {A = Answer} (elim s as (λ x. Answer) [
       | refused n m f ↦ refusal n m f
-      | goes r ↦ read_lines (begun || isRecordRead (kind_of (without_crs l))) (k + 1) (offset + length l + 1) (before ++ r.records) r.state ls
+      | goes r ↦ read_lines (begun || is_record_read (kind_of (without_crs l))) (k + 1) (offset + length l + 1) (before ++ r.records) r.state ls
       | ends r ↦ finish true (before ++ r.records) r.state
-    ]) (carry_on (begun || isRecordRead (kind_of (without_crs l))) (k + 1) (offset + length l + 1) before ls s)
+    ]) (carry_on (begun || is_record_read (kind_of (without_crs l))) (k + 1) (offset + length l + 1) before ls s)
     go (refused n m f) = refl
     go (goes r) = refl
     go (ends r) = refl
@@ -114,6 +114,8 @@ module _ (h : List Bool) (recs : ℕ → Rec) where
     pub notes : r.state.notes ≡ st.notes + length items
     pub stands : Stands h recs (counted l n) r.state (records_from (k + 1) ls)
     pub rest_is : rest h recs n st (records_from k (l ∷ ls)) ≡ items ++ rest h recs (counted l n) r.state (records_from (k + 1) ls)
+    pub rows : OnRows h recs (counted l n) (taken_from (length r.state.row) (records_from (k + 1) ls))
+        → OnRows h recs n (taken_from (length st.row) (records_from k (l ∷ ls)))
 
   -- a result that adds nothing leaves the reading where it stands
   pub stands_still : {n : ℕ} {st : State} {rs : List Numbered} (r : Result) → Adds st r [] → Stands h recs n st rs
@@ -138,6 +140,7 @@ module _ (h : List Bool) (recs : ℕ → Rec) where
               notes = w.notes;
               stands = rw i w.stands;
               rest_is = rw (records_some k l ls i, i) w.rest_is;
+              rows = rw (records_some k l ls i, i) w.rows;
             }
         go false i =
             let o : (r : Result) × (read_line true (k + 1) offset (without_crs l) st ≡ goes r) × Adds st r [] = other_line true (k + 1) offset (without_crs l) st i in
@@ -151,12 +154,17 @@ module _ (h : List Bool) (recs : ℕ → Rec) where
               notes = a.notes;
               stands = rw i s.0;
               rest_is = rw (records_none k l ls i, i) (sym s.1);
+              rows = rw (records_none k l ls i, i, a.row) (λ rows. rows);
             }
 
-    pub passed_last : read_line true (k + 1) offset (without_crs l) st ≡ ends r → Adds st r [] × (rest h recs n st (records_from k (l ∷ ls)) ≡ [])
+    -- and where the reading ends, nothing is taken any more
+    abbrev pub Last : Type 0
+    Last = Adds st r [] × (rest h recs n st (records_from k (l ∷ ls)) ≡ []) × OnRows h recs n (taken_from (length st.row) (records_from k (l ∷ ls)))
+
+    pub passed_last : read_line true (k + 1) offset (without_crs l) st ≡ ends r → Last
     passed_last e = go (is_record (kind_of (without_crs l))) refl
       where
-        go : (b : Bool) → is_record (kind_of (without_crs l)) ≡ b → Adds st r [] × (rest h recs n st (records_from k (l ∷ ls)) ≡ [])
+        go : (b : Bool) → is_record (kind_of (without_crs l)) ≡ b → Last
         go true i = rw (records_some k l ls i)
             (went_last h recs n st (record_at k l ls) (records_from (k + 1) ls) r (rw (records_some k l ls i) at here) i offset
             (sym (record_line true (k + 1) offset (without_crs l) st i) ∙ e))
@@ -174,6 +182,7 @@ paths_in rs n = get_or (paths_from (length (header_in rs)) (later_in rs)) n (pla
 pub record Begins (x : Numbered) (rs : List Numbered) (st : State) (r : Result) : Type 0 where
   pub agree : Agree (notes_of r.records) []
   pub row : r.state.row ≡ header_row (header_in (x ∷ rs))
+  pub row_size : length r.state.row ≡ length (header_in (x ∷ rs))
   pub bars : r.state.bars ≡ st.bars
   pub notes : r.state.notes ≡ st.notes
   pub noted : any_noted r.state.parts ≡ false
@@ -195,6 +204,7 @@ module _ (x : Numbered) (rs : List Numbered) (offset : ℕ) (st : State) where
   header_begins = record {
     agree = a.agree;
     row = a.row;
+    row_size = width;
     bars = a.bars;
     notes = omega (arith, a.notes);
     noted = a.noted ∙ or-false (any_noted (fresh_parts 0 kerns_of)) ∙ fresh_noted 0 kerns_of;
@@ -215,7 +225,10 @@ module _ (x : Numbered) (rs : List Numbered) (offset : ℕ) (st : State) where
   unfolding read_header
   begins r e = subst (Begins x rs st) (go (not (each is_exclusive (tokens_of x.bytes))) (ltb 256 (length (tokens_of x.bytes))) (not (any_kern kerns_of)) e) header_begins
     where
-      go : (a b c : Bool) → cond a (refused 3 x.number 0) (cond b (refused 4 x.number (length (tokens_of x.bytes))) (cond c (refused 5 x.number 0) (goes headed_result))) ≡ goes r → headed_result ≡ r
+      go : (a b c : Bool)
+          → cond a (refused 3 x.number 0)
+          (cond b (refused 4 x.number (length (tokens_of x.bytes))) (cond c (refused 5 x.number 0) (goes headed_result))) ≡ goes r
+          → headed_result ≡ r
       go true b c e = cc
       go false true c e = cc
       go false false true e = cc
@@ -225,7 +238,9 @@ module _ (x : Numbered) (rs : List Numbered) (offset : ℕ) (st : State) where
   unfolding read_header
   header_last r = go (not (each is_exclusive (tokens_of x.bytes))) (ltb 256 (length (tokens_of x.bytes))) (not (any_kern kerns_of))
     where
-      go : (a b c : Bool) → cond a (refused 3 x.number 0) (cond b (refused 4 x.number (length (tokens_of x.bytes))) (cond c (refused 5 x.number 0) (goes headed_result))) ≡ ends r → ⊥
+      go : (a b c : Bool)
+          → cond a (refused 3 x.number 0)
+          (cond b (refused 4 x.number (length (tokens_of x.bytes))) (cond c (refused 5 x.number 0) (goes headed_result))) ≡ ends r → ⊥
       go true b c e = clash cc
       go false true c e = clash cc
       go false false true e = clash cc

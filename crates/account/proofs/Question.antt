@@ -22,7 +22,7 @@ use Rattle.repair.specs.declared.Repair.{Repair}
 use Rattle.repair.proofs.WidthLaws.{even_width, record_tokens_lem}
 use Rattle.paths.specs.Demand.{At, Fits}
 use Rattle.paths.specs.Record.{Rec, star, tokens}
-use Rattle.paths.specs.Text.{Reading, reached, ended, refused as refusedRow, reading, read_to}
+use Rattle.paths.specs.Text.{Reading, reached, ended, refused as row_refusal, reading, read_to}
 use Rattle.paths.specs.Token.{path_token}
 use Rattle.paths.specs.Trace.{columns, lines, FirstWithout, Unmixed, FirstMixed}
 use Rattle.paths.specs.Voices.{step_row}
@@ -184,46 +184,46 @@ module _ (text : List ℕ) (before : List (List ℕ)) (here : List ℕ) (rest : 
   fits_there = star_fits (header_of text) (paths_of text) (later_among before) there.state (without_crs here) placed.stands.at follows there.is_star_lem there.some_spine there.repair there.even
 
   -- refused with 17 or 8 on this line, the row is refused so
-  refused_row : (w q : ℕ) → OfRow w → read_text text ≡ refusal w (length before + 1) q → read_to (header_of text) (paths_of text) (suc (later_among before)) ≡ refusedRow w q
+  refused_row : (w q : ℕ) → OfRow w → read_text text ≡ refusal w (length before + 1) q → read_to (header_of text) (paths_of text) (suc (later_among before)) ≡ row_refusal w q
   refused_row w q x e = row_next ∙ go row_reading star_there
     where
-      go : (o : Reading) → StarIs (length before + 1) o (read_line true (length before + 1) placed.offset (without_crs here) there.state) → o ≡ refusedRow w q
+      go : (o : Reading) → StarIs (length before + 1) o (read_line true (length before + 1) placed.offset (without_crs here) there.state) → o ≡ row_refusal w q
       go (reached row) (u, i) =
           let s : StoppedAt true (length before + 1) (placed.offset + length here + 1) u.state rest w (length before + 1) q =
           stopped (length before + 1) (placed.offset + length here + 1) rest true (placed.before ++ u.records) u.state w (length before + 1) q x
           (sym (answers ∙ ap (carry_on true (length before + 1) (placed.offset + length here + 1) placed.before rest) i) ∙ e) in
           absurd (omega (arith, s.number))
       go ended i = absurd i
-      go (refusedRow n f) i =
+      go (row_refusal n f) i =
           let r : refusal n (length before + 1) f ≡ refusal w (length before + 1) q =
           sym (answers ∙ ap (carry_on true (length before + 1) (placed.offset + length here + 1) placed.before rest) i) ∙ e in
           let number : n ≡ w = cc in
           let figure : f ≡ q = cc in
-          ap₂ refusedRow number figure
+          ap₂ row_refusal number figure
 
   -- and the other way
-  row_refused : (w q : ℕ) → read_to (header_of text) (paths_of text) (suc (later_among before)) ≡ refusedRow w q → read_text text ≡ refusal w (length before + 1) q
+  row_refused : (w q : ℕ) → read_to (header_of text) (paths_of text) (suc (later_among before)) ≡ row_refusal w q → read_text text ≡ refusal w (length before + 1) q
   row_refused w q e = answers ∙ ap (carry_on true (length before + 1) (placed.offset + length here + 1) placed.before rest)
       (subst (λ (o : Reading). StarIs (length before + 1) o (read_line true (length before + 1) placed.offset (without_crs here) there.state)) (sym row_next ∙ e) star_there)
 
   mixed_there : (f : ℕ) → (read_text text ≡ refusal 17 (length before + 1) f) ↔ FirstMixed (header_of text) (paths_of text) (later_among before) f
   mixed_there f = (λ e. question.0 (refused_row 17 f (inr refl) e), λ m. row_refused 17 f (question.1 m))
     where
-      question : (read_to (header_of text) (paths_of text) (suc (later_among before)) ≡ refusedRow 17 f) ↔ FirstMixed (header_of text) (paths_of text) (later_among before) f
+      question : (read_to (header_of text) (paths_of text) (suc (later_among before)) ≡ row_refusal 17 f) ↔ FirstMixed (header_of text) (paths_of text) (later_among before) f
       question = (demand (header_of text) (paths_of text)).question_17 (later_among before) there.state.row placed.stands.at fits_there _ paths_there f
 
   voiceless_there : Unmixed (header_of text) (paths_of text) (later_among before)
       → ((q : ℕ) × (read_text text ≡ refusal 8 (length before + 1) q)) ↔ ((p : ℕ) × (4 < lines (header_of text) (paths_of text) (suc (later_among before)) p))
   voiceless_there u = (λ e. question.0 (e.0, refused_row 8 e.0 (inl refl) e.1), λ p. back (question.1 p))
     where
-      question : ((q : ℕ) × (read_to (header_of text) (paths_of text) (suc (later_among before)) ≡ refusedRow 8 q))
+      question : ((q : ℕ) × (read_to (header_of text) (paths_of text) (suc (later_among before)) ≡ row_refusal 8 q))
           ↔ ((p : ℕ) × (4 < lines (header_of text) (paths_of text) (suc (later_among before)) p))
       question = (demand (header_of text) (paths_of text)).question_8 (later_among before) there.state.row placed.stands.at fits_there _ paths_there u
 
-      back : (q : ℕ) × (read_to (header_of text) (paths_of text) (suc (later_among before)) ≡ refusedRow 8 q) → (q : ℕ) × (read_text text ≡ refusal 8 (length before + 1) q)
+      back : (q : ℕ) × (read_to (header_of text) (paths_of text) (suc (later_among before)) ≡ row_refusal 8 q) → (q : ℕ) × (read_text text ≡ refusal 8 (length before + 1) q)
       back r = (r.0, row_refused 8 r.0 r.1)
 
-  named_there : (q : ℕ) → row_reading ≡ refusedRow 8 q
+  named_there : (q : ℕ) → row_reading ≡ row_refusal 8 q
       → Unmixed (header_of text) (paths_of text) (later_among before) × FirstWithout (header_of text) (paths_of text) (later_among before) q
   named_there q e = (
     (demand (header_of text) (paths_of text)).unmixed_8 (later_among before) there.state.row placed.stands.at q (row_next ∙ e),
@@ -237,7 +237,7 @@ record Reaches (text : List ℕ) (w k q : ℕ) : Type 0 where
   rest : List (List ℕ)
   there : ReachedStar text before here rest
   number : k ≡ length before + 1
-  stops : star_reading there.state (repaired (length there.state.row) (tokens_of (without_crs here))) ≡ refusedRow w q
+  stops : star_reading there.state (repaired (length there.state.row) (tokens_of (without_crs here))) ≡ row_refusal w q
 
 reaches : (text : List ℕ) (w k q : ℕ) → OfRow w → read_text text ≡ refusal w k q → Reaches text w k q
 reaches text w k q x e =

@@ -2,7 +2,7 @@
 use Rattle.std.proofs.Common.{Ok, Err}
 use Prim.Native.Nat.{ℕ, suc, ◌+◌, ◌<◌}
 use native.Mathlib.Omega.{arith}
-use mathlib.Core.Bool.{Bool, true, false, cond, ◌||◌}
+use mathlib.Core.Bool.{Bool, true, false, cond, ◌||◌, or-false}
 use mathlib.Core.List.{List, [], ◌∷◌, ◌++◌, map}
 use mathlib.Core.Path.{◌≡◌, refl, sym, ap, subst, ◌∙◌}
 use lib.Dec.{eqb}
@@ -18,12 +18,14 @@ use Rattle.paths.specs.declared.Spine.{Spine}
 use Rattle.paths.specs.Demand.{At}
 use Rattle.paths.specs.Text.{reading}
 use Rattle.paths.specs.Token.{path_token}
-use Rattle.paths.specs.Trace.{part}
+use Rattle.paths.specs.Trace.{part, width_in}
 use Rattle.paths.specs.TracedVoice.{voice}
 use Rattle.paths.specs.Voices.{Outcome, next, mixed, voiceless, wide, step_row}
+use Rattle.repair.specs.Record.{record_of}
 use Rattle.repair.specs.Repair.{repaired, Repaired, repaired_of}
 use Rattle.repair.specs.declared.Repair.{Repair}
 use Rattle.repair.specs.declared.Unrepaired.TheVariants.{Uneven, Mixed}
+use Rattle.repair.proofs.WidthLaws.{even_width}
 use Rattle.sheet.specs.Player.{notes_of}
 use Rattle.sheet.specs.Record.{BAR}
 use Rattle.reading.specs.State.{State, Result, Step, refused, goes, ends, with_parts}
@@ -34,12 +36,12 @@ use Rattle.reading.specs.Star.{read_columns, to_row, read_star}
 use Rattle.reading.specs.Bars.{any_noted, closed_bar, closed_part, closing, left_anew, keep_left, is_kern_spine, close_with, read_bar}
 use Rattle.reading.specs.Notes.{read_data, behind}
 use Rattle.reading.specs.Records.{notice_repair, by_kind, by_repair, on_row}
-use Rattle.account.specs.Rows.{Numbered, is_record, Taken, row_after, taken_from}
+use Rattle.account.specs.Rows.{Numbered, is_record, Taken, taken_from}
 use Rattle.account.specs.Account.{Item, closings_after, noted_after, items_of, items_by, account_from}
 use Rattle.account.specs.Agree.{Agree, both_end}
-use Rattle.account.proofs.ResultLaws.{Adds, agree_notes, or-false, notify_adds, repair_adds, columns_add}
+use Rattle.account.proofs.ResultLaws.{Adds, agree_notes, notify_adds, repair_adds, columns_add}
 use Rattle.account.proofs.DataLaws.{StepAdds, Columns, tokens_add}
-use Rattle.account.proofs.RowLaws.{Follows, follows_first, follows_next, reads_on, row_columns, kern_columns_lem}
+use Rattle.account.proofs.RowLaws.{row_after, Follows, follows_first, next_width, follows_next, reads_on, row_columns, kern_columns_lem}
 use Rattle.reading.proofs.StateLaws.{placed_bytes, closed_noted}
 
 -- ---- barlines
@@ -100,39 +102,54 @@ pub paths : (us : List Token) → map (λ (t : Token). path_token t.bytes) us �
 paths [] = refl
 paths (u ∷ us) = ap (λ (l : List PathToken). path_token u.bytes ∷ l) (paths us)
 
+-- as many tokens with their places as the row has spines
+placed_even : (offset : ℕ) (row : List Spine) (bytes : List ℕ) {p : Repair} → repaired_of (length row) (tokens_of bytes) ≡ Ok p
+    → length row ≡ length (placed offset (repaired (length row) (tokens_of bytes)))
+placed_even offset row bytes e =
+    let ts : List (List ℕ) = repaired (length row) (tokens_of bytes) in
+    let many : length (map (λ (t : Token). t.bytes) (placed offset ts)) ≡ length (placed offset ts) = length-map (placed offset ts) _ in
+    let same : length (map (λ (t : Token). t.bytes) (placed offset ts)) ≡ length ts = ap length (placed_bytes offset ts) in
+    omega (arith, even_width (length row) (tokens_of bytes) e)
+
 module _ (h : List Bool) (recs : ℕ → Rec) where
-  abbrev taken_on : Kind → ℕ → List (List ℕ) → List Spine → Taken
-  taken_on kind k ts row = record { number = k; kind = kind; tokens = ts; row = row }
+  -- the note tokens of a taken record, the n-th behind the header, by the trace
+  abbrev pub items_at : Kind → ℕ → ℕ → Taken → List Item
+  items_at kind n bars t = items_by (part h recs) (voice h recs) kind n bars t
+
+  abbrev taken_on : Kind → ℕ → List (List ℕ) → Taken
+  taken_on kind k ts = record { number = k; kind = kind; tokens = ts }
 
   -- a record on line k, of this kind and these tokens, the n-th behind the header: from row, closings and notes to a result
   pub record Took (kind : Kind) (n k : ℕ) (ts : List (List ℕ)) (row : List Spine) (bars : ℕ) (noted : Bool) (notes parts : ℕ) (r : Result) : Type 0 where
-    pub agree : Agree (notes_of r.records) (items_by h recs kind n bars (taken_on kind k ts row))
+    pub agree : Agree (notes_of r.records) (items_at kind n bars (taken_on kind k ts))
     pub row_is : row_after kind ts row ≡ next r.state.row
     pub bars_is : r.state.bars ≡ closings_after kind noted bars
-    pub notes_is : r.state.notes ≡ notes + length (items_by h recs kind n bars (taken_on kind k ts row))
-    pub noted_is : any_noted r.state.parts ≡ noted_after kind noted (items_by h recs kind n bars (taken_on kind k ts row))
+    pub notes_is : r.state.notes ≡ notes + length (items_at kind n bars (taken_on kind k ts))
+    pub noted_is : any_noted r.state.parts ≡ noted_after kind noted (items_at kind n bars (taken_on kind k ts))
     pub size_is : length r.state.parts ≡ parts
 
   abbrev TookFrom : Kind → ℕ → ℕ → List (List ℕ) → State → Result → Type 0
   TookFrom kind n k ts st r = Took kind n k ts st.row st.bars (any_noted st.parts) st.notes (length st.parts) r
 
-  data_step : (n k : ℕ) (st : State) → At h recs n st.row → length st.parts ≡ length (fresh_parts 0 h) → (us : List Token)
-      → StepAdds st (read_data k us st) (items_by h recs Data n st.bars (taken_on Data k (map (λ (t : Token). t.bytes) us) st.row))
+  data_step : (n k : ℕ) (st : State) → At h recs n st.row → length st.parts ≡ length (fresh_parts 0 h) → (us : List Token) → length st.row ≡ length us
+      → StepAdds st (read_data k us st) (items_at Data n st.bars (taken_on Data k (map (λ (t : Token). t.bytes) us)))
   unfolding read_data items_of
-  data_step n k st at size us = rw (kern_columns_lem (part h recs n) (voice h recs n) (length st.parts) 0 st.row columns)
-      (tokens_add (part h recs n) (voice h recs n) (map (λ (t : Token). t.bytes) us) (map is_kern_spine st.row) k (st.bars + 1) 0 st.row us st refl columns)
+  data_step n k st at size us z =
+      let many : length st.row ≡ length (map (λ (t : Token). t.bytes) us) = z ∙ sym (length-map us _) in
+      rw (kern_columns_lem (part h recs n) (voice h recs n) (length st.parts) 0 st.row (map (λ (t : Token). t.bytes) us) many columns)
+      (tokens_add (part h recs n) (voice h recs n) (map (λ (t : Token). t.bytes) us) (map is_kern_spine st.row) k (st.bars + 1) 0 st.row us st z refl columns)
     where
       columns : Columns (part h recs n) (voice h recs n) (length st.parts) 0 st.row
       columns = rw size (row_columns h recs n st.row at)
 
   -- no kind of record ends the reading
-  never_ends : (kind : Kind) (n k : ℕ) (st : State) → At h recs n st.row → length st.parts ≡ length (fresh_parts 0 h) → (us : List Token) (r : Result)
-      → by_kind kind k us st ≡ ends r → ⊥
+  never_ends : (kind : Kind) (n k : ℕ) (st : State) → At h recs n st.row → length st.parts ≡ length (fresh_parts 0 h)
+      → (us : List Token) → length st.row ≡ length us → (r : Result) → by_kind kind k us st ≡ ends r → ⊥
   unfolding read_star
-  never_ends Empty n k st at size us r e = clash cc
-  never_ends Reference n k st at size us r e = clash cc
-  never_ends Comment n k st at size us r e = clash cc
-  never_ends Star n k st at size us r e = go (step_row st.row (map (λ (t : Token). path_token t.bytes) us)) e
+  never_ends Empty n k st at size us z r e = clash cc
+  never_ends Reference n k st at size us z r e = clash cc
+  never_ends Comment n k st at size us z r e = clash cc
+  never_ends Star n k st at size us z r e = go (step_row st.row (map (λ (t : Token). path_token t.bytes) us)) e
     where
       c : Result
       c = read_columns (map (λ (t : Token). path_token t.bytes) us) k 0 st.row us st
@@ -142,14 +159,16 @@ module _ (h : List Bool) (recs : ℕ → Rec) where
       go (mixed c) e = clash cc
       go (voiceless p) e = clash cc
       go (wide w) e = clash cc
-  never_ends Bar n k st at size us r e = clash cc
-  never_ends Data n k st at size us r e =
-      subst (λ (s : Step). StepAdds st s (items_by h recs Data n st.bars (taken_on Data k (map (λ (t : Token). t.bytes) us) st.row))) e (data_step n k st at size us)
+  never_ends Bar n k st at size us z r e = clash cc
+  never_ends Data n k st at size us z r e =
+      subst (λ (s : Step). StepAdds st s (items_at Data n st.bars (taken_on Data k (map (λ (t : Token). t.bytes) us)))) e (data_step n k st at size us z)
 
   module _ (n k : ℕ) (st : State) (r : Result) where
     star_took : (ts : List (List ℕ)) (us : List Token) → map (λ (t : Token). t.bytes) us ≡ ts → read_star k us st ≡ goes r → TookFrom Star n k ts st r
     unfolding read_star
-    star_took ts us e g = go (step_row st.row (map (λ (t : Token). path_token t.bytes) us)) (ap (λ (l : List PathToken). step_row st.row l) (paths us) ∙ ap (λ (l : List (List ℕ)). step_row st.row (map path_token l)) e) g
+    star_took ts us e g =
+        go (step_row st.row (map (λ (t : Token). path_token t.bytes) us))
+        (ap (λ (l : List PathToken). step_row st.row l) (paths us) ∙ ap (λ (l : List (List ℕ)). step_row st.row (map path_token l)) e) g
       where
         c : Result
         c = read_columns (map (λ (t : Token). path_token t.bytes) us) k 0 st.row us st
@@ -189,9 +208,9 @@ module _ (h : List Bool) (recs : ℕ → Rec) where
         result : read_bar us st ≡ r
         result = cc
 
-    data_took : At h recs n st.row → length st.parts ≡ length (fresh_parts 0 h)
-        → (ts : List (List ℕ)) (us : List Token) → map (λ (t : Token). t.bytes) us ≡ ts → read_data k us st ≡ goes r → TookFrom Data n k ts st r
-    data_took at size ts us e g = record {
+    data_took : At h recs n st.row → length st.parts ≡ length (fresh_parts 0 h) → (ts : List (List ℕ)) (us : List Token) → length st.row ≡ length us
+        → map (λ (t : Token). t.bytes) us ≡ ts → read_data k us st ≡ goes r → TookFrom Data n k ts st r
+    data_took at size ts us z e g = record {
       agree = added.agree;
       row_is = ap next (sym added.row);
       bars_is = added.bars;
@@ -200,17 +219,19 @@ module _ (h : List Bool) (recs : ℕ → Rec) where
       size_is = added.size;
     }
       where
-        added : Adds st r (items_by h recs Data n st.bars (taken_on Data k ts st.row))
-        added = rw (← e) (subst (λ (s : Step). StepAdds st s (items_by h recs Data n st.bars (taken_on Data k (map (λ (t : Token). t.bytes) us) st.row))) g (data_step n k st at size us))
+        added : Adds st r (items_at Data n st.bars (taken_on Data k ts))
+        added = rw (← e)
+            (subst (λ (s : Step). StepAdds st s (items_at Data n st.bars (taken_on Data k (map (λ (t : Token). t.bytes) us)))) g (data_step n k st at size us z))
 
     kind_took : (kind : Kind) → is_record kind ≡ true → At h recs n st.row → length st.parts ≡ length (fresh_parts 0 h)
-        → (ts : List (List ℕ)) (us : List Token) → map (λ (t : Token). t.bytes) us ≡ ts → by_kind kind k us st ≡ goes r → TookFrom kind n k ts st r
-    kind_took Empty i at size ts us e g = clash cc
-    kind_took Reference i at size ts us e g = clash cc
-    kind_took Comment i at size ts us e g = clash cc
-    kind_took Star i at size ts us e g = star_took ts us e g
-    kind_took Bar i at size ts us e g = bar_took ts us g
-    kind_took Data i at size ts us e g = data_took at size ts us e g
+        → (ts : List (List ℕ)) (us : List Token) → length st.row ≡ length us → map (λ (t : Token). t.bytes) us ≡ ts → by_kind kind k us st ≡ goes r
+        → TookFrom kind n k ts st r
+    kind_took Empty i at size ts us z e g = clash cc
+    kind_took Reference i at size ts us z e g = clash cc
+    kind_took Comment i at size ts us z e g = clash cc
+    kind_took Star i at size ts us z e g = star_took ts us e g
+    kind_took Bar i at size ts us z e g = bar_took ts us g
+    kind_took Data i at size ts us z e g = data_took at size ts us z e g
 
   -- behind the notice of a repair
   behind_took : (kind : Kind) (n k : ℕ) (ts : List (List ℕ)) (st : State) (q u : Result) → Adds st q [] → TookFrom kind n k ts q.state u
@@ -253,14 +274,14 @@ behind_ends q f r = go (f q.state)
 
 -- ---- a record that is taken
 
--- it is the first of the rows that the text says
-pub taken_one : (x : Numbered) (rs : List Numbered) (row after : List Spine) {r : Repair} → 0 < length row → repaired_of (length row) (tokens_of x.bytes) ≡ Ok r
-    → row_after (kind_of x.bytes) (repaired (length row) (tokens_of x.bytes)) row ≡ next after
-    → taken_from row (x ∷ rs)
-    ≡ record { number = x.number; kind = kind_of x.bytes; tokens = repaired (length row) (tokens_of x.bytes); row = row } ∷ taken_from after rs
+-- it is the first of those that the text says
+pub taken_one : (x : Numbered) (rs : List Numbered) (row after : List Spine) → 0 < length row
+    → length after ≡ width_in (record_of (length row) x.bytes) (length row)
+    → taken_from (length row) (x ∷ rs)
+    ≡ record { number = x.number; kind = kind_of x.bytes; tokens = repaired (length row) (tokens_of x.bytes) } ∷ taken_from (length after) rs
 unfolding taken_from
-taken_one x rs [] after l e f = absurd (omega arith)
-taken_one x rs (s ∷ row) after l e f = rw (e, f)
+taken_one x rs [] after l w = absurd (omega arith)
+taken_one x rs (s ∷ row) after l w = rw w
 
 module _ (h : List Bool) (recs : ℕ → Rec) where
   -- the reading stands in this state before these records, the first of them the n-th behind the header
@@ -271,7 +292,12 @@ module _ (h : List Bool) (recs : ℕ → Rec) where
 
   -- the note tokens from there on
   abbrev pub rest : ℕ → State → List Numbered → List Item
-  rest n st rs = account_from h recs n st.bars (any_noted st.parts) (taken_from st.row rs)
+  rest n st rs = account_from (part h recs) (voice h recs) n st.bars (any_noted st.parts) (taken_from (length st.row) rs)
+
+  -- each of these taken records, the first of them the n-th behind the header, stands over a row that the paths reach
+  abbrev pub OnRows : ℕ → List Taken → Type 0
+  OnRows n [] = Unit {0}
+  OnRows n (t ∷ ts) = ((row : List Spine) × At h recs n row) × OnRows (suc n) ts
 
   -- the reading went past a record: its note tokens are played
   pub record Went (n : ℕ) (st : State) (x : Numbered) (rs : List Numbered) (r : Result) : Type 0 where
@@ -280,8 +306,10 @@ module _ (h : List Bool) (recs : ℕ → Rec) where
     pub notes : r.state.notes ≡ st.notes + length items
     pub stands : Stands (suc n) r.state rs
     pub rest_is : rest n st (x ∷ rs) ≡ items ++ rest (suc n) r.state rs
+    pub rows : OnRows (suc n) (taken_from (length r.state.row) rs) → OnRows n (taken_from (length st.row) (x ∷ rs))
 
-  module _ (n : ℕ) (st : State) (x : Numbered) (rs : List Numbered) (r : Result) (here : Stands n st (x ∷ rs)) (is_record_lem : is_record (kind_of x.bytes) ≡ true) where
+  module _ (n : ℕ) (st : State) (x : Numbered) (rs : List Numbered) (r : Result) (here : Stands n st (x ∷ rs))
+      (is_record_lem : is_record (kind_of x.bytes) ≡ true) where
     went_by : {p : Repair} → 0 < length st.row → repaired_of (length st.row) (tokens_of x.bytes) ≡ Ok p
         → TookFrom h recs (kind_of x.bytes) n x.number (repaired (length st.row) (tokens_of x.bytes)) st r → Went n st x rs r
     unfolding account_from
@@ -290,11 +318,19 @@ module _ (h : List Bool) (recs : ℕ → Rec) where
       agree = t.agree;
       notes = t.notes_is;
       stands = record { at = at'; size = t.size_is ∙ here.size; follows = follows_next h recs st.row r.state.row here.at at' here.follows };
-      rest_is = rw (taken_one x rs st.row r.state.row l e t.row_is, t.bars_is, t.noted_is);
+      rest_is = rw (one, t.bars_is, t.noted_is);
+      rows = λ rows. rw one ((st.row, here.at), rows);
     }
       where
+        first : recs n ≡ record_of (length st.row) x.bytes
+        first = follows_first here.follows
+
         at' : At h recs (suc n) r.state.row
-        at' = reads_on h recs n st.row here.at x.bytes l is_record_lem e (follows_first here.follows) ∙ ap reading t.row_is
+        at' = reads_on h recs n st.row here.at x.bytes l is_record_lem e first ∙ ap reading t.row_is
+
+        one : taken_from (length st.row) (x ∷ rs)
+            ≡ taken_on h recs (kind_of x.bytes) x.number (repaired (length st.row) (tokens_of x.bytes)) ∷ taken_from (length r.state.row) rs
+        one = taken_one x rs st.row r.state.row l (next_width h recs n x.bytes st.row r.state.row here.at at' first)
 
     went_even : {p : Repair} (offset : ℕ) → 0 < length st.row → repaired_of (length st.row) (tokens_of x.bytes) ≡ Ok p
         → behind (notice_repair p x.number offset x.bytes st)
@@ -316,11 +352,13 @@ module _ (h : List Bool) (recs : ℕ → Rec) where
         a : Adds st q []
         a = repair_adds p k offset x.bytes st
 
-        parts : (u : Result) × (by_kind kind k (placed offset ts) q.state ≡ goes u) × (◌≡◌ {A = Result} (record { state = u.state; records = q.records ++ u.records }) r)
+        parts : (u : Result) × (by_kind kind k (placed offset ts) q.state ≡ goes u)
+            × (◌≡◌ {A = Result} (record { state = u.state; records = q.records ++ u.records }) r)
         parts = behind_goes q (by_kind kind k (placed offset ts)) r g
 
         took : TookFrom h recs kind n k ts q.state parts.0
-        took = kind_took h recs n k q.state parts.0 kind is_record_lem (rw a.row here.at) (a.size ∙ here.size) ts (placed offset ts) (placed_bytes offset ts) parts.1
+        took = kind_took h recs n k q.state parts.0 kind is_record_lem (rw a.row here.at) (a.size ∙ here.size) ts (placed offset ts)
+            (rw a.row (placed_even offset st.row x.bytes e)) (placed_bytes offset ts) parts.1
 
     pub went : (offset : ℕ) → on_row st.row x.number offset x.bytes st ≡ goes r → Went n st x rs r
     went offset = by_row st.row refl
@@ -335,25 +373,33 @@ module _ (h : List Bool) (recs : ℕ → Rec) where
         by_row [] e g = clash cc
         by_row (s ∷ row) e g =
             even (omega (arith, ap length e)) (repaired_of (length st.row) (tokens_of x.bytes)) refl
-            (subst (λ (w : ℕ). by_repair (repaired_of w (tokens_of x.bytes)) x.number offset x.bytes (placed offset (repaired w (tokens_of x.bytes))) st ≡ goes r) (sym (ap length e)) g)
+            (subst (λ (w : ℕ). by_repair (repaired_of w (tokens_of x.bytes)) x.number offset x.bytes (placed offset (repaired w (tokens_of x.bytes))) st ≡ goes r)
+            (sym (ap length e)) g)
 
-    -- with no active spine left the reading ends, and so do the rows
-    pub went_last : (offset : ℕ) → on_row st.row x.number offset x.bytes st ≡ ends r → Adds st r [] × (rest n st (x ∷ rs) ≡ [])
+    -- with no active spine left the reading ends, and so do the records that are taken
+    pub went_last : (offset : ℕ) → on_row st.row x.number offset x.bytes st ≡ ends r
+        → Adds st r [] × (rest n st (x ∷ rs) ≡ []) × OnRows n (taken_from (length st.row) (x ∷ rs))
     unfolding taken_from account_from
     went_last offset = by_row st.row refl
       where
         result : (u : Result) → ends u ≡ ends r → u ≡ r
         result u e = cc
 
-        even : (o : Repaired) (us : List Token) → by_repair o x.number offset x.bytes us st ≡ ends r → ⊥
-        even (Err (Uneven c)) us g = clash cc
-        even (Err Mixed) us g = clash cc
-        even (Ok p) us g =
+        even : (us : List Token) (o : Repaired) → repaired_of (length st.row) (tokens_of x.bytes) ≡ o → by_repair o x.number offset x.bytes us st ≡ ends r
+            → ((p : Repair) → repaired_of (length st.row) (tokens_of x.bytes) ≡ Ok p → length st.row ≡ length us) → ⊥
+        even us (Err (Uneven c)) v g z = clash cc
+        even us (Err Mixed) v g z = clash cc
+        even us (Ok p) v g z =
             let q : Result = notice_repair p x.number offset x.bytes st in
             let a : Adds st q [] = repair_adds p x.number offset x.bytes st in
             let u : (u : Result) × (by_kind (kind_of x.bytes) x.number us q.state ≡ ends u) = behind_ends q (by_kind (kind_of x.bytes) x.number us) r g in
-            never_ends h recs (kind_of x.bytes) n x.number q.state (rw a.row here.at) (a.size ∙ here.size) us u.0 u.1
+            never_ends h recs (kind_of x.bytes) n x.number q.state (rw a.row here.at) (a.size ∙ here.size) us (rw a.row (z p v)) u.0 u.1
 
-        by_row : (row : List Spine) → st.row ≡ row → on_row row x.number offset x.bytes st ≡ ends r → Adds st r [] × (rest n st (x ∷ rs) ≡ [])
-        by_row [] e g = (subst (λ (u : Result). Adds st u []) (result _ g) (notify_adds 3 x.number 0 _ st), rw e)
-        by_row (s ∷ row) e g = absurd (even (repaired_of (length (s ∷ row)) (tokens_of x.bytes)) (placed offset (repaired (length (s ∷ row)) (tokens_of x.bytes))) g)
+        by_row : (row : List Spine) → st.row ≡ row → on_row row x.number offset x.bytes st ≡ ends r
+            → Adds st r [] × (rest n st (x ∷ rs) ≡ []) × OnRows n (taken_from (length st.row) (x ∷ rs))
+        by_row [] e g = (subst (λ (u : Result). Adds st u []) (result _ g) (notify_adds 3 x.number 0 _ st), rw e, rw e tt)
+        by_row (s ∷ row) e g =
+            absurd (even (placed offset (repaired (length st.row) (tokens_of x.bytes))) (repaired_of (length st.row) (tokens_of x.bytes)) refl
+            (subst (λ (w : ℕ). by_repair (repaired_of w (tokens_of x.bytes)) x.number offset x.bytes (placed offset (repaired w (tokens_of x.bytes))) st ≡ ends r)
+            (sym (ap length e)) g)
+            (λ p v. placed_even offset st.row x.bytes v))

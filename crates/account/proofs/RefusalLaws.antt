@@ -20,7 +20,7 @@ use Rattle.paths.specs.declared.Spine.{Spine}
 use Rattle.paths.specs.declared.Spine.TheVariants.{Line, Branch, Outside}
 use Rattle.paths.specs.Token.{path_token}
 use Rattle.paths.specs.Voices.{Outcome as RowOutcome, next, mixed, voiceless, wide, step_row}
-use Rattle.paths.specs.Text.{Reading, reached, ended, refused as refusedRow, reading}
+use Rattle.paths.specs.Text.{Reading, reached, ended, refused as row_refusal, reading}
 use Rattle.repair.specs.Repair.{each, repaired, Repaired, repaired_of}
 use Rattle.repair.specs.declared.Repair.{Repair}
 use Rattle.repair.specs.declared.Unrepaired.TheVariants.{Uneven, Mixed}
@@ -46,7 +46,7 @@ pub record StarStopped (begun : Bool) (bytes : List ℕ) (st : State) (n f : ℕ
   pub some_spine : 0 < length st.row
   pub repair : Repair
   pub even : repaired_of (length st.row) (tokens_of bytes) ≡ Ok repair
-  pub stops : star_reading st (repaired (length st.row) (tokens_of bytes)) ≡ refusedRow n f
+  pub stops : star_reading st (repaired (length st.row) (tokens_of bytes)) ≡ row_refusal n f
 
 -- a question of the reading
 abbrev pub Asked : ℕ → Type 0
@@ -140,13 +140,13 @@ module _ (k : ℕ) (P : ℕ → ℕ → Type 0) where
 -- ---- a star record
 
 pub star_stops : (k : ℕ) (ts : List (List ℕ)) (us : List Token) (st : State) → map (λ (t : Token). t.bytes) us ≡ ts
-    → Stops k (λ n f. star_reading st ts ≡ refusedRow n f) (read_star k us st)
+    → Stops k (λ n f. star_reading st ts ≡ row_refusal n f) (read_star k us st)
 unfolding read_star
 star_stops k ts us st e =
     go (read_columns (map (λ (t : Token). path_token t.bytes) us) k 0 st.row us st) (step_row st.row (map (λ (t : Token). path_token t.bytes) us))
     (ap (λ (l : List PathToken). step_row st.row l) (paths us) ∙ ap (λ (l : List (List ℕ)). step_row st.row (map path_token l)) e)
   where
-    go : (c : Result) (o : RowOutcome) → o ≡ step_row st.row (map path_token ts) → Stops k (λ n f. star_reading st ts ≡ refusedRow n f) (to_row k c o)
+    go : (c : Result) (o : RowOutcome) → o ≡ step_row st.row (map path_token ts) → Stops k (λ n f. star_reading st ts ≡ row_refusal n f) (to_row k c o)
     go c (next row) e = tt
     go c (mixed m) e = (refl, ((omega arith, inr refl), λ x. ap reading (sym e)))
     go c (voiceless p) e = (refl, ((omega arith, inl (omega arith)), λ x. ap reading (sym e)))
@@ -176,7 +176,7 @@ module _ (k offset : ℕ) (bytes : List ℕ) (st : State) where
       row : q.state.row ≡ st.row
       row = (repair_adds p k offset bytes st).row
 
-      stopped : kind_of bytes ≡ Star → (n f : ℕ) → star_reading q.state ts ≡ refusedRow n f → StarStopped true bytes st n f
+      stopped : kind_of bytes ≡ Star → (n f : ℕ) → star_reading q.state ts ≡ row_refusal n f → StarStopped true bytes st n f
       stopped i n f v = record {
         behind_header = refl;
         is_star_lem = i;
@@ -190,7 +190,7 @@ module _ (k offset : ℕ) (bytes : List ℕ) (st : State) where
       go Empty i = tt
       go Reference i = tt
       go Comment i = tt
-      go Star i = stops_map k (λ n f. star_reading q.state ts ≡ refusedRow n f) (StarStopped true bytes st) (read_star k us q.state) (stopped i) (star_stops k ts us q.state (placed_bytes offset ts))
+      go Star i = stops_map k (λ n f. star_reading q.state ts ≡ row_refusal n f) (StarStopped true bytes st) (read_star k us q.state) (stopped i) (star_stops k ts us q.state (placed_bytes offset ts))
       go Bar i = tt
       go Data i = data_stops k (StarStopped true bytes st) us q.state
 
@@ -231,12 +231,12 @@ module _ (k offset : ℕ) (bytes : List ℕ) (st : State) where
 abbrev pub StarIs : ℕ → Reading → Step → Type 0
 StarIs k (reached row) s = (r : Result) × (s ≡ goes r)
 StarIs k ended s = ⊥
-StarIs k (refusedRow n f) s = s ≡ refused n k f
+StarIs k (row_refusal n f) s = s ≡ refused n k f
 
 behind_star : (k : ℕ) (o : Reading) (q : Result) (f : State → Step) → StarIs k o (f q.state) → StarIs k o (behind q f)
 behind_star k (reached row) q f e = (record { state = e.0.state; records = q.records ++ e.0.records }, ap (λ (s : Step). behind q (λ x. s)) e.1)
 behind_star k ended q f e = e
-behind_star k (refusedRow n g) q f e = ap (λ (s : Step). behind q (λ x. s)) e
+behind_star k (row_refusal n g) q f e = ap (λ (s : Step). behind q (λ x. s)) e
 
 read_star_lem : (k : ℕ) (ts : List (List ℕ)) (us : List Token) (st : State) → map (λ (t : Token). t.bytes) us ≡ ts → StarIs k (star_reading st ts) (read_star k us st)
 unfolding read_star

@@ -1,10 +1,10 @@
 -- What a piece of the reading adds to the notes, and what it leaves as it was.
 use Prim.Native.Nat.{ℕ, suc, ◌+◌}
 use native.Mathlib.Omega.{arith}
-use mathlib.Core.Bool.{Bool, true, false, cond, ◌||◌}
+use mathlib.Core.Bool.{Bool, true, false, cond, ◌||◌, or-false}
 use mathlib.Core.List.{List, [], ◌∷◌, ◌++◌}
 use mathlib.Core.Path.{◌≡◌, refl, sym, ap, ◌∙◌}
-use lib.Dec.{eqb, ltb}
+use lib.Dec.{ltb}
 use lib.ListN.{length, drop, length-append, length-set}
 use Rattle.paths.specs.declared.PathToken.{PathToken}
 use Rattle.paths.specs.declared.PathToken.TheVariants.{Split, Join, Exchange, End, Add, Other}
@@ -66,14 +66,6 @@ pub record Adds (st : State) (r : Result) (items : List Item) : Type 0 where
   pub notes : r.state.notes ≡ st.notes + length items
   pub noted : any_noted r.state.parts ≡ (any_noted st.parts || any_item items)
   pub size : length r.state.parts ≡ length st.parts
-
-pub or-false : (b : Bool) → (b || false) ≡ b
-or-false true = refl
-or-false false = refl
-
-pub or_true : (b : Bool) → (b || true) ≡ true
-or_true true = refl
-or_true false = refl
 
 or_items : (b : Bool) (is js : List Item) → ((b || any_item is) || any_item js) ≡ (b || any_item (is ++ js))
 or_items true is js = refl

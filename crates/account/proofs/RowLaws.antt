@@ -25,6 +25,7 @@ use Rattle.paths.specs.Text.{reading, read_record, take_record, read_to}
 use Rattle.paths.specs.Token.{path_token}
 use Rattle.paths.specs.Trace.{trace, kerns_before, header_part, part, columns, width_in}
 use Rattle.paths.specs.TracedVoice.{voice}
+use Rattle.paths.specs.Voices.{Outcome, next, step_row}
 use Rattle.paths.proofs.Demand.{demand}
 use Rattle.paths.proofs.TextLaws.{one_more}
 use Rattle.paths.proofs.TracedVoices.{traced_voice}
@@ -34,7 +35,7 @@ use Rattle.repair.specs.declared.Repair.{Repair}
 use Rattle.repair.proofs.WidthLaws.{even_width, record_tokens_lem}
 use Rattle.reading.specs.Bars.{is_kern_spine}
 use Rattle.reading.specs.Header.{fresh_parts}
-use Rattle.account.specs.Rows.{Numbered, is_record, paths_from, row_after}
+use Rattle.account.specs.Rows.{Numbered, is_record, paths_from}
 use Rattle.account.specs.Account.{kern_columns}
 use Rattle.account.proofs.DataLaws.{Column, Columns}
 
@@ -61,6 +62,15 @@ kind_star s = go (same_bytes (ascii "") s) (begins_with (ascii "!!!") s) (begins
     go false false false true e i = refl
     go false false false false true i = refl
     go false false false false false i = refl
+
+-- a record's next row: "begun by `*` it makes the next row by Paths", "any other keeps the row"
+abbrev pub row_after : Kind → List (List ℕ) → List Spine → Outcome
+row_after Empty ts row = next row
+row_after Reference ts row = next row
+row_after Comment ts row = next row
+row_after Star ts row = step_row row (map path_token ts)
+row_after Bar ts row = next row
+row_after Data ts row = next row
 
 -- ---- one record after another
 
@@ -101,15 +111,19 @@ module _ (h : List Bool) (recs : ℕ → Rec) where
         go Bar i b e = rw e
         go Data i b e = rw e
 
-  -- where the next row is reached, the records behind follow it
+  -- the next row, where it is reached, is as wide as the record makes it
+  pub next_width : (n : ℕ) (bytes : List ℕ) (row after : List Spine) → At h recs n row → At h recs (suc n) after
+      → recs n ≡ record_of (length row) bytes → length after ≡ width_in (record_of (length row) bytes) (length row)
+  unfolding columns
+  next_width n bytes row after at at' first =
+      (demand h recs).size (suc n) after at' ∙ ap (λ (r : Rec). width_in r (columns h recs n)) first
+      ∙ ap (width_in (record_of (length row) bytes)) (sym ((demand h recs).size n row at))
+
+  -- and the records behind follow it
   pub follows_next : {n : ℕ} {x : Numbered} {rs : List Numbered} (row after : List Spine) → At h recs n row → At h recs (suc n) after
       → Follows recs n (length row) (x ∷ rs) → Follows recs (suc n) (length after) rs
-  unfolding columns
-  follows_next {n} {x} {rs} row after at at' f = subst (λ (w : ℕ). Follows recs (suc n) w rs) (sym width) (follows_rest f)
-    where
-      width : length after ≡ width_in (record_of (length row) x.bytes) (length row)
-      width = (demand h recs).size (suc n) after at' ∙ ap (λ (r : Rec). width_in r (columns h recs n)) (follows_first f)
-          ∙ ap (width_in (record_of (length row) x.bytes)) (sym ((demand h recs).size n row at))
+  follows_next {n} {x} {rs} row after at at' f =
+      subst (λ (w : ℕ). Follows recs (suc n) w rs) (sym (next_width n x.bytes row after at at' (follows_first f))) (follows_rest f)
 
 -- ---- the columns
 
@@ -151,17 +165,22 @@ module _ (part_at_text : ℕ → Option ℕ) (voice_at_text : ℕ → ℕ) (m : 
             (λ j p v x. let y : suc i + j ≡ i + suc j = omega arith in ap voice_at_text y ∙ w (suc j) p v x),
       )
 
-pub row_columns : (h : List Bool) (recs : ℕ → Rec) (n : ℕ) (row : List Spine) → At h recs n row → Columns (part h recs n) (voice h recs n) (length (fresh_parts 0 h)) 0 row
+pub row_columns : (h : List Bool) (recs : ℕ → Rec) (n : ℕ) (row : List Spine) → At h recs n row
+    → Columns (part h recs n) (voice h recs n) (length (fresh_parts 0 h)) 0 row
 row_columns h recs n row at =
     columns_are (part h recs n) (voice h recs n) (length (fresh_parts 0 h)) (λ j p. part_bound h recs n j p) 0 row
     (λ j. let z : j ≡ 0 + j = omega arith in (demand h recs).in_part n row at j ∙ ap (part h recs n) z) ((demand h recs).voiced n row at)
     (λ j p v x. let z : 0 + j ≡ j = omega arith in ap (voice h recs n) z ∙ traced_voice h recs n row at j p v x)
 
-pub kern_columns_lem : (part_at_text : ℕ → Option ℕ) (voice_at_text : ℕ → ℕ) (m i : ℕ) (row : List Spine) → Columns part_at_text voice_at_text m i row → kern_columns part_at_text i row ≡ map is_kern_spine row
+-- the kern columns, of as many tokens as the row has spines
+pub kern_columns_lem : (part_at_text : ℕ → Option ℕ) (voice_at_text : ℕ → ℕ) (m i : ℕ) (row : List Spine) (ts : List (List ℕ))
+    → length row ≡ length ts → Columns part_at_text voice_at_text m i row → kern_columns part_at_text i ts ≡ map is_kern_spine row
 unfolding kern_columns
-kern_columns_lem f g m i [] c = refl
-kern_columns_lem f g m i (Line p v ∷ row) ((e, l, w), cs) = rw e (ap (λ (ks : List Bool). true ∷ ks) (kern_columns_lem f g m (suc i) row cs))
-kern_columns_lem f g m i (Branch p ∷ row) (c, cs) = absurd c
-kern_columns_lem f g m i (Outside ∷ row) (e, cs) = rw e (ap (λ (ks : List Bool). false ∷ ks) (kern_columns_lem f g m (suc i) row cs))
-
--- ---- the tokens of a line, with their places and without
+kern_columns_lem f g m i [] [] z c = refl
+kern_columns_lem f g m i [] (t ∷ ts) z c = absurd (omega arith)
+kern_columns_lem f g m i (s ∷ row) [] z c = absurd (omega arith)
+kern_columns_lem f g m i (Line p v ∷ row) (t ∷ ts) z ((e, l, w), cs) =
+    rw e (ap (λ (ks : List Bool). true ∷ ks) (kern_columns_lem f g m (suc i) row ts (omega arith) cs))
+kern_columns_lem f g m i (Branch p ∷ row) (t ∷ ts) z (c, cs) = absurd c
+kern_columns_lem f g m i (Outside ∷ row) (t ∷ ts) z (e, cs) =
+    rw e (ap (λ (ks : List Bool). false ∷ ks) (kern_columns_lem f g m (suc i) row ts (omega arith) cs))

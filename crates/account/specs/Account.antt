@@ -11,8 +11,6 @@ use Rattle.token.specs.Account.{is_note, account_length}
 use Rattle.token.specs.Outcome.{note_pitches}
 use Rattle.token.specs.declared.pitches.Tone.{Tone}
 use Rattle.peers.specs.Peers.{is_bare, peer_reciprocal}
-use Rattle.paths.specs.declared.Spine.{Spine}
-use Rattle.paths.specs.Record.{Rec}
 use Rattle.paths.specs.Trace.{part}
 use Rattle.paths.specs.TracedVoice.{voice}
 use Rattle.sheet.specs.declared.Pitch.{Pitch}
@@ -36,16 +34,16 @@ abbrev pub is_kern_column : Option ℕ → Bool
 is_kern_column none = false
 is_kern_column (some p) = true
 
--- which columns are kern, where each column's part is what it reaches when traced backwards, from column j on
-unfoldable pub kern_columns : (ℕ → Option ℕ) → ℕ → List Spine → List Bool
+-- which columns are kern, from column j on, one for each token
+unfoldable pub kern_columns : (ℕ → Option ℕ) → ℕ → List (List ℕ) → List Bool
 kern_columns part_at j [] = []
-kern_columns part_at j (s ∷ row) = is_kern_column (part_at j) ∷ kern_columns part_at (suc j) row
+kern_columns part_at j (t ∷ ts) = is_kern_column (part_at j) ∷ kern_columns part_at (suc j) ts
 
 -- "reciprocal n, read or inferred as the source does": what a bare pitch takes from its neighbours
 unfoldable pub inferred_of : List (List ℕ) → List Bool → ℕ → List ℕ → List ℕ
 inferred_of tokens kern j t = cond (is_bare t) (peer_reciprocal tokens kern j) []
 
--- ---- one record: each column's part and voice are what the text says of it, traced backwards
+-- ---- one record: what part and what voice each column has, its tokens, which columns are kern, its line, its bar
 module _ (part_at : ℕ → Option ℕ) (voice_at : ℕ → ℕ) (tokens : List (List ℕ)) (kern : List Bool) (number bar : ℕ) where
   abbrev pub item_of : ℕ → ℕ → List ℕ → Item
   item_of p j t = record {
@@ -64,10 +62,9 @@ module _ (part_at : ℕ → Option ℕ) (voice_at : ℕ → ℕ) (tokens : List 
   item_in (some p) j t = cond (is_null t) [] (cond (is_note t (inferred_of tokens kern j t)) (item_of p j t ∷ []) [])
 
   -- "by line, then column", from column j on
-  unfoldable pub items_from : ℕ → List Spine → List (List ℕ) → List Item
-  items_from j [] ts = []
-  items_from j (s ∷ row) [] = []
-  items_from j (s ∷ row) (t ∷ ts) = item_in (part_at j) j t ++ items_from (suc j) row ts
+  unfoldable pub items_from : ℕ → List (List ℕ) → List Item
+  items_from j [] = []
+  items_from j (t ∷ ts) = item_in (part_at j) j t ++ items_from (suc j) ts
 
 -- ---- the whole text
 abbrev pub any_item : List Item → Bool
@@ -91,12 +88,11 @@ noted_after Star noted items = noted
 noted_after Bar noted items = false
 noted_after Data noted items = noted || any_item items
 
--- h says which columns of the header are `**kern`, recs what the later records say of paths
-module _ (h : List Bool) (recs : ℕ → Rec) where
+-- what part and what voice each column of the row before the n-th later record has
+module _ (parts : ℕ → ℕ → Option ℕ) (voices : ℕ → ℕ → ℕ) where
   -- the note tokens of the n-th later record, "in the bar numbered one above the closings before it"
   unfoldable pub items_of : ℕ → ℕ → Taken → List Item
-  items_of n closings t =
-      items_from (part h recs n) (voice h recs n) t.tokens (kern_columns (part h recs n) 0 t.row) t.number (closings + 1) 0 t.row t.tokens
+  items_of n closings t = items_from (parts n) (voices n) t.tokens (kern_columns (parts n) 0 t.tokens) t.number (closings + 1) 0 t.tokens
 
   -- "in one begun by `=` no token is a note token", nor in one begun by `*`
   abbrev pub items_by : Kind → ℕ → ℕ → Taken → List Item
@@ -114,5 +110,10 @@ module _ (h : List Bool) (recs : ℕ → Rec) where
       let items = items_by t.kind n closings t in
       items ++ account_from (suc n) (closings_after t.kind noted closings) (noted_after t.kind noted items) ts
 
+-- by what part each column is taken to have
+unfoldable pub account_by : (ℕ → ℕ → Option ℕ) → List ℕ → List Item
+account_by parts text = account_from parts (voice (header_of text) (paths_of text)) 0 0 false (taken_of text)
+
+-- "Its part is the `**kern` header column reached": by the trace backwards
 unfoldable pub account : List ℕ → List Item
-account text = account_from (header_of text) (paths_of text) 0 0 false (taken_of text)
+account text = account_by (part (header_of text) (paths_of text)) text

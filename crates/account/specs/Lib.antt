@@ -3,4 +3,3 @@ pub mod Rows
 pub mod Account
 pub mod Agree
 pub mod Reached
-pub mod Joins

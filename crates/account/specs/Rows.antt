@@ -1,18 +1,13 @@
 -- WHAT THE TEXT SAYS of its rows: "Demand 3 is measured by rows of columns, from the text alone." Quoted are document 01's sentences.
-use Rattle.std.specs.Prelude.{Ok, Err, ℕ, ◌+◌, Bool, true, false, cond, List, [], ◌∷◌, map, length, get_or}
+use Rattle.std.specs.Prelude.{ℕ, zero, suc, ◌+◌, Bool, true, false, cond, List, [], ◌∷◌, map, length, get_or}
 use Rattle.lines.specs.Lines.{lines_of, without_crs, kind_of}
 use Rattle.lines.specs.Tokens.{tokens_of, is_kern}
 use Rattle.lines.specs.declared.Kind.{Kind}
 use Rattle.lines.specs.declared.Kind.TheVariants.{Empty, Reference, Comment, Star, Bar, Data}
 use Rattle.paths.specs.Record.{Rec, plain}
-use Rattle.paths.specs.declared.Spine.{Spine}
-use Rattle.paths.specs.Text.{header_row}
-use Rattle.paths.specs.Token.{path_token}
 use Rattle.paths.specs.Trace.{width_in}
-use Rattle.paths.specs.Voices.{Outcome, next, mixed, voiceless, wide, step_row}
 use Rattle.repair.specs.Record.{record_of}
-use Rattle.repair.specs.Repair.{repaired, Repaired, repaired_of}
-use Rattle.repair.specs.declared.Unrepaired.TheVariants.{Uneven, Mixed}
+use Rattle.repair.specs.Repair.{repaired}
 
 -- a record with the number of its line
 pub record Numbered : Type 0 where
@@ -62,45 +57,21 @@ unfoldable pub paths_of : List ℕ → ℕ → Rec
 paths_of text n = get_or (paths_from (length (header_of text)) (later_of text)) n (plain 0)
 
 -- ---- the records that are taken
--- a taken record: its line's number, its kind, its tokens after repair, and the row that they stand under
+-- a taken record: its line's number, its kind, its tokens after repair
 pub record Taken : Type 0 where
   pub number : ℕ
   pub kind : Kind
   pub tokens : List (List ℕ)
-  pub row : List Spine
 
--- a record's next row: "begun by `*` it makes the next row by Paths", "any other keeps the row"
-abbrev pub row_after : Kind → List (List ℕ) → List Spine → Outcome
-row_after Empty ts row = next row
-row_after Reference ts row = next row
-row_after Comment ts row = next row
-row_after Star ts row = step_row row (map path_token ts)
-row_after Bar ts row = next row
-row_after Data ts row = next row
+-- "Each later record .., repaired, is taken while the row isn't empty and no question stops it": of an accepted text, which no question stops. w columns
+-- stand before the first of them
+unfoldable pub taken_from : ℕ → List Numbered → List Taken
+taken_from w [] = []
+taken_from zero (r ∷ rs) = []
+taken_from (suc w) (r ∷ rs) =
+    record { number = r.number; kind = kind_of r.bytes; tokens = repaired (suc w) (tokens_of r.bytes) }
+    ∷ taken_from (width_in (record_of (suc w) r.bytes) (suc w)) rs
 
-abbrev pub where_next : Outcome → (List Spine → List Taken) → List Taken
-where_next (next row) rest = rest row
-where_next (mixed c) rest = []
-where_next (voiceless p) rest = []
-where_next (wide n) rest = []
-
-abbrev pub where_even : Repaired → List Taken → List Taken
-where_even (Err (Uneven n)) ts = []
-where_even (Err Mixed) ts = []
-where_even (Ok r) ts = ts
-
--- "is taken while the row isn't empty and no question stops it"
-unfoldable pub taken_from : List Spine → List Numbered → List Taken
-taken_from row [] = []
-taken_from [] (r ∷ rs) = []
-taken_from (s ∷ row) (r ∷ rs) =
-    let n = length (s ∷ row) in
-    let ts = tokens_of r.bytes in
-    let kind = kind_of r.bytes in
-    where_even (repaired_of n ts)
-    (where_next (row_after kind (repaired n ts) (s ∷ row))
-    (λ (after : List Spine). record { number = r.number; kind = kind; tokens = repaired n ts; row = s ∷ row } ∷ taken_from after rs))
-
--- "The first row is the header, `**kern` columns with voice 0."
+-- "The first row is the header": as many columns
 unfoldable pub taken_of : List ℕ → List Taken
-taken_of text = taken_from (header_row (header_of text)) (later_of text)
+taken_of text = taken_from (length (header_of text)) (later_of text)

@@ -15,7 +15,7 @@ use Rattle.reading.specs.Records.{read_line}
 use Rattle.reading.specs.Text.{Answer, refusal, accepted, finish, read_lines, read_text}
 use Rattle.account.specs.Rows.{is_record}
 use Rattle.account.proofs.LineLaws.{carry_on, read_line_lem}
-use Rattle.account.proofs.RefusalLaws.{StarStopped, Asked, Stops as Refused, line_stops as line_Refused}
+use Rattle.account.proofs.RefusalLaws.{StarStopped, Asked, Stops as Refused, line_stops as line_refused}
 
 -- a line is refused by a question of the reading, if at all
 abbrev Stops : Step → Type 0
@@ -24,7 +24,7 @@ Stops (goes r) = Unit {0}
 Stops (ends r) = Unit {0}
 
 line_stops : (begun : Bool) (k offset : ℕ) (bytes : List ℕ) (st : State) → Stops (read_line begun k offset bytes st)
-line_stops begun k offset bytes st = go (read_line begun k offset bytes st) (line_Refused k offset bytes st begun)
+line_stops begun k offset bytes st = go (read_line begun k offset bytes st) (line_refused k offset bytes st begun)
   where
     go : (s : Step) → Refused k (StarStopped begun bytes st) s → Stops s
     go (refused n m f) e = e.1.0

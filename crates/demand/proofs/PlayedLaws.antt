@@ -19,6 +19,7 @@ use Rattle.account.specs.Account.{account}
 use Rattle.account.specs.Agree.{Agree, Apart, NotesShare}
 use Rattle.account.proofs.Accepted.{accepted_notes}
 use Rattle.account.proofs.Distinct.{notes_never_share}
+use Rattle.account.proofs.JoinLaws.{any_line}
 use Rattle.extent.specs.Extent.{Extent}
 use Rattle.extent.proofs.TextLaws.{extent}
 use Rattle.fits.proofs.Whole.{all_fit}
@@ -53,12 +54,16 @@ module _ (text old : List ℕ) (bytes : (i : ℕ) → get_or text i 0 < 2 ^ 8) (
   plays : sheet_notes (buffer_of text old) ≡ notes_of rs
   plays = ap sheet_notes in_buffer ∙ sheet_notes_lem head rs behind head_fits (all_fit text bytes parts notes rs is) refl
 
+  agrees : Agree (sheet_notes (buffer_of text old)) (account text)
+  agrees = subst (λ ns. Agree ns (account text)) (sym plays) (accepted_notes text parts notes rs is).agree
+
   pub played : Played text (buffer_of text old)
   played = record {
-    notes = subst (λ ns. Agree ns (account text)) (sym plays) (accepted_notes text parts notes rs is).0;
+    notes = agrees;
     count =
         ap (λ (b : List ℕ). (head_of b).notes) in_buffer
         ∙ ap (λ (h : Head). h.notes) (sheet_head head rs behind head_fits (all_fit text bytes parts notes rs is) refl)
-        ∙ (accepted_notes text parts notes rs is).1;
+        ∙ (accepted_notes text parts notes rs is).count;
     distinct = subst (λ ns. Apart NotesShare ns) (sym plays) (notes_never_share text parts notes rs is);
+    any_line = λ ends may_end. subst (Agree (sheet_notes (buffer_of text old))) (sym (any_line text parts notes rs is ends may_end)) agrees;
   }
