@@ -2,4 +2,5 @@
 pub mod FewLaws
 pub mod SignifierLaws
 pub mod AccountLaws
+pub mod ReferenceLaws
 pub mod Examples
