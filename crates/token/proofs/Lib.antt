@@ -4,3 +4,4 @@ pub mod SignifierLaws
 pub mod AccountLaws
 pub mod ReferenceLaws
 pub mod Examples
+pub mod ReferenceExamples
