@@ -20,8 +20,8 @@ use Rattle.token.specs.Reference.{of_pitch, SubToken, bytes_of, token_of, octave
 use Rattle.token.proofs.Examples.{tones}
 
 -- a note by its pieces
-abbrev pub note : (before : List ℕ) (c : Case) (s : Step) (repetitions : ℕ) (a : Accidental) (behind : List ℕ) → filter of_pitch before ≡ []
-    → filter of_pitch behind ≡ reference.written a → SubToken
+abbrev pub note : (before : List ℕ) (c : Case) (s : Step) (repetitions : ℕ) (a : Accidental) (behind : List ℕ)
+    → filter of_pitch before ≡ [] → filter of_pitch behind ≡ reference.written a → SubToken
 note before c s repetitions a behind p q =
     record {
       before = before;
@@ -34,13 +34,19 @@ note before c s repetitions a behind p q =
       accidental_behind = q;
     }
 
+-- a token of one note, or of two; its text; its pitches
 pub data Line : Type 0 where
-  line : List SubToken → List ℕ → List ℕ → Line
+  one : SubToken → List ℕ → List ℕ → Line
+  two : SubToken → SubToken → List ℕ → List ℕ → Line
 
-unfoldable pub holds : Line → Bool
-holds (line subs text pitches) =
+abbrev pub same : List SubToken → List ℕ → List ℕ → Bool
+same subs text pitches =
     same_bytes (token_of subs) text
     && (same_bytes (tones (reference_tones subs)) pitches && same_bytes (tones (note_pitches text)) pitches)
+
+unfoldable pub holds : Line → Bool
+holds (one s text pitches) = same (s ∷ []) text pitches
+holds (two s t text pitches) = same (s ∷ t ∷ []) text pitches
 
 abbrev pub each : List Line → Bool
 each [] = true
@@ -50,17 +56,27 @@ unfoldable pub table : List Line
 unfolding of_pitch contains reference.written
 table =
     -- the flat of a second note
-    line (note (ascii "4") lower C 0 (flat 0) [] refl refl ∷ note (ascii "4") lower E 0 (flat 1) (ascii "-") refl refl ∷ [])
+    two
+    (note (ascii "4") lower C 0 (flat 0) [] refl refl)
+    (note (ascii "4") lower E 0 (flat 1) (ascii "-") refl refl)
     (ascii "4c 4e-") (0 ∷ 4 ∷ 128 ∷ 2 ∷ 4 ∷ 127 ∷ [])
     -- a dot, a beam, a tie, a stem
-    ∷ line (note (ascii "8.") lower E 1 (flat 1) (ascii "-L") refl refl ∷ []) (ascii "8.ee-L") (2 ∷ 5 ∷ 127 ∷ [])
-    ∷ line (note (ascii "[2") upper C 0 (sharp 1) (ascii "#/") refl refl ∷ note (ascii "2") upper G 0 (sharp 0) (ascii "]") refl refl ∷ [])
+    ∷ one
+    (note (ascii "8.") lower E 1 (flat 1) (ascii "-L") refl refl)
+    (ascii "8.ee-L") (2 ∷ 5 ∷ 127 ∷ [])
+    ∷ two
+    (note (ascii "[2") upper C 0 (sharp 1) (ascii "#/") refl refl)
+    (note (ascii "2") upper G 0 (sharp 0) (ascii "]") refl refl)
     (ascii "[2C#/ 2G]") (0 ∷ 3 ∷ 129 ∷ 4 ∷ 3 ∷ 128 ∷ [])
     -- marks between the bytes of an accidental; a natural
-    ∷ line (note (ascii "(4") upper F 0 (sharp 3) (ascii "##'#~") refl refl ∷ note (ascii "4") upper B 1 natural (ascii "n)") refl refl ∷ [])
+    ∷ two
+    (note (ascii "(4") upper F 0 (sharp 3) (ascii "##'#~") refl refl)
+    (note (ascii "4") upper B 1 natural (ascii "n)") refl refl)
     (ascii "(4F##'#~ 4BBn)") (3 ∷ 3 ∷ 131 ∷ 6 ∷ 2 ∷ 128 ∷ [])
     -- no pitch for an octave above 9
-    ∷ line (note (ascii "4") lower C 6 (sharp 0) [] refl refl ∷ note (ascii "4") lower D 5 (sharp 0) [] refl refl ∷ [])
+    ∷ two
+    (note (ascii "4") lower C 6 (sharp 0) [] refl refl)
+    (note (ascii "4") lower D 5 (sharp 0) [] refl refl)
     (ascii "4ccccccc 4dddddd") (1 ∷ 9 ∷ 128 ∷ [])
     ∷ []
 

@@ -27,7 +27,7 @@ use Rattle.token.specs.Reference.{of_pitch, SubToken, bytes_of, token_of, octave
 use Rattle.token.specs.declared.pitches.Tone.{Tone}
 
 -- ---- the reference's numbers
--- an octave has a number here exactly where `Numbered` gives it one from 0 to 9
+-- an octave's number is the one from 0 to 9 that `Numbered` gives it, and it has none where `Numbered` gives none
 pub numbered : (o : Octave) (n : ℕ) → octave_number o ≡ Some n → Numbered o n × (n ≤ 9)
 unfolding octave_number Numbered
 numbered (above k) n e = go (leb k 5) refl e

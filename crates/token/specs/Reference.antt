@@ -8,12 +8,12 @@ use Rattle.token.specs.declared.pitches.Tone.{Tone}
 
 -- ---- the text
 -- the bytes that decide pitches: the letters of the steps, the accidentals, `r` that makes a rest, and the blank between
--- the notes of a chord; all others, as digits, dots, ties, slurs, beams, stems and ornaments, say nothing of a pitch
+-- the notes of a chord; digits, dots, ties, slurs, beams, stems, articulations and all others say nothing of a pitch
 unfoldable pub of_pitch : ℕ → Bool
 of_pitch b = contains b (ascii "abcdefgABCDEFG#-nr ")
 
--- a note of a token: its letter, once and so many times more, and the accidental behind; bytes that say nothing of a
--- pitch stand in front of the letters, and behind them, around the accidental and between its bytes
+-- a note of a token: the letter of its step once and `repetitions` times more; of the bytes in front of the letters none
+-- decides a pitch, and of those behind them the accidental's alone do, in a row or with others between
 pub record SubToken : Type 0 where
   pub before : List ℕ
   pub case : Case
@@ -49,7 +49,7 @@ abbrev pub tone_at : SubToken → Option ℕ → List Tone
 tone_at s None = []
 tone_at s (Some octave) = record { step = number s.step; octave = octave; alter = alteration s.accidental } ∷ []
 
--- one pitch for each note whose octave is one of 0 to 9, in order
+-- one pitch for each note whose octave is one of 0 to 9, in order; `before` and `behind` have no part in it
 unfoldable pub reference_tones : List SubToken → List Tone
 reference_tones [] = []
 reference_tones (s ∷ ss) = tone_at s (octave_number (octave_of s.case s.repetitions)) ++ reference_tones ss
