@@ -2,4 +2,6 @@
 pub mod FewLaws
 pub mod SignifierLaws
 pub mod AccountLaws
+pub mod ReferenceLaws
 pub mod Examples
+pub mod ReferenceExamples

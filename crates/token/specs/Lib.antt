@@ -3,3 +3,4 @@ pub mod Token
 pub mod Scan
 pub mod Outcome
 pub mod Account
+pub mod Reference
