@@ -40,14 +40,14 @@ use Rattle.reading.specs.Notices.{placed}
 use Rattle.reading.specs.State.{State, Result, Step, refused, goes, ends, start}
 use Rattle.reading.specs.Text.{Answer, refusal, accepted, read_text, sheet_bytes, answered, answer_of, buffer_of}
 use Rattle.account.specs.Reached.{Place, where_goes, place_after, ReachedStar, later_among, Question8, Question17}
-use Rattle.account.specs.Rows.{Numbered, is_record, records_from, records_of, header_in, header_of, paths_of, row_after}
+use Rattle.account.specs.Rows.{Numbered, is_record, records_from, records_of, header_in, header_of, paths_of}
 use Rattle.account.proofs.LineLaws.{record_at, records_some, other_line, record_line, same_record, Passed, passed, paths_in, Begins, begins}
 use Rattle.account.proofs.PlaceLaws.{place_line, place_start}
 use mathlib.Core.Logic.{inl}
 use Rattle.account.proofs.Question.{from_answer, refused_with_8}
 use Rattle.account.proofs.RecordLaws.{Stands}
 use Rattle.account.proofs.ResultLaws.{Adds}
-use Rattle.account.proofs.RowLaws.{Follows, follows_first, reads_on, kind_star}
+use Rattle.account.proofs.RowLaws.{Follows, follows_first, row_after, reads_on, kind_star}
 use Rattle.demand.specs.Played.{Played}
 use Rattle.reader.specs.Answer.{numbers_of}
 use Rattle.std.specs.Prelude.{Result as Answered, Ok, Err}
