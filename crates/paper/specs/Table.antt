@@ -28,8 +28,8 @@ pub data Line : Type 0 where
   note : String → List ℕ → Line
   -- the voices of a part's lines, and a star record: the voices of the next row by place; 8 and the part where it is refused
   voices : List ℕ → String → List ℕ → Line
-  -- a note token in a voice whose beam is not held: its beam, and 1 where the beam is held after it
-  beam : String → List ℕ → Line
+  -- whether a voice's beam is held, and a note token: its beam, and 1 where the beam is held after it
+  beam : Bool → String → List ℕ → Line
   -- an interpretation: its tempo
   tempo : String → List ℕ → Line
 
@@ -86,14 +86,14 @@ abbrev given : Line → List ℕ
 given (reciprocal text _) = of_value (duration_of (ascii text))
 given (note text _) = of_signifiers (reported (ascii text)) ++ of_token (ascii text) (read_token (ascii text) [])
 given (voices held text _) = of_outcome (step_row (map (Line-of 0) held) (record_of text))
-given (beam text _) = of_beam (beamed false (letters_of (ascii text)).starts (letters_of (ascii text)).ends)
+given (beam held text _) = of_beam (beamed held (letters_of (ascii text)).starts (letters_of (ascii text)).ends)
 given (tempo text _) = of_tempo (interpretation_of (ascii text) false)
 
 abbrev expected : Line → List ℕ
 expected (reciprocal _ said) = said
 expected (note _ said) = said
 expected (voices _ _ said) = said
-expected (beam _ said) = said
+expected (beam _ _ said) = said
 expected (tempo _ said) = said
 
 abbrev right : Line → Bool
@@ -123,7 +123,8 @@ table =
     -- "voices 0 1 with `*^ *^`: branches 2, 3"
     ∷ voices (0 ∷ 1 ∷ []) "*^ *^" (0 ∷ 2 ∷ 1 ∷ 3 ∷ [])
     -- "both L and J: beam 0, closed"
-    ∷ beam "8cLJ" (0 ∷ 0 ∷ [])
+    ∷ beam false "8cLJ" (0 ∷ 0 ∷ [])
+    ∷ beam true "8cLJ" (0 ∷ 0 ∷ [])
     -- "`MM119.5` is 120"
     ∷ tempo "*MM119.5" (120 ∷ [])
     ∷ []
