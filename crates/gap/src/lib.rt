@@ -86,6 +86,7 @@ impl Time {
     }
 
     // A value in a triplet that lasts all the ticks.
+    #[tactic(auto, unfolding(crate::specs::Values::triplet_by))]
     fn triplet_by(self, value: u8) -> Option<Rest>
         requires { value < 10 }
         ensures { result ≡ triplet_by self.divisions self.ticks value }
@@ -103,6 +104,7 @@ impl Time {
     }
 
     // A longer value in a tuplet that lasts all the ticks.
+    #[tactic(auto, unfolding(crate::specs::Values::tuplet_by))]
     fn tuplet_by(self, value: u8) -> Option<Rest>
         requires { value < 10 }
         ensures { result ≡ tuplet_by self.divisions self.ticks value }
@@ -123,6 +125,7 @@ impl Time {
     }
 
     // A value that fits.
+    #[tactic(auto, unfolding(crate::specs::Values::plain_by))]
     fn plain_by(self, value: u8) -> Option<Rest>
         requires { value < 10 }
         ensures { result ≡ plain_by self.divisions self.ticks value }

@@ -1,40 +1,9 @@
 -- `code_point`: the bits of as many bytes as the character has.
 use mathlib.Core.Path.{sym, ◌∙◌}
 use native.Mathlib.Omega.{arith}
-use Rattle.utf8.proofs.LengthLaws.{char_inside}
 use Rattle.utf8.proofs.TableLaws.{char_most}
 use Rattle.utf8.proofs.PointLaws.{point_none, point_1, point_2, point_3, point_4}
 use Rattle.utf8.proofs.code_point.Goals as goal
-
-pub bounds-s-0 : goal.bounds-s-0
-bounds-s-0 c = omega (arith, char_inside c.args.s.now)
-
-pub bounds-s-0-in-2 : goal.bounds-s-0-in-2
-bounds-s-0-in-2 c = omega (arith, char_inside c.args.s.now)
-
-pub behind-requires : goal.behind-requires
-behind-requires c = omega (arith, char_inside c.args.s.now)
-
-pub bounds-s-0-in-3 : goal.bounds-s-0-in-3
-bounds-s-0-in-3 c = omega (arith, char_inside c.args.s.now)
-
-pub behind-requires-in-3 : goal.behind-requires-in-3
-behind-requires-in-3 c = omega (arith, char_inside c.args.s.now)
-
-pub behind-requires-in-3-2 : goal.behind-requires-in-3-2
-behind-requires-in-3-2 c = omega (arith, char_inside c.args.s.now)
-
-pub bounds-s-0-in_default : goal.bounds-s-0-in_default
-bounds-s-0-in_default c = omega (arith, char_inside c.args.s.now)
-
-pub behind-requires-in_default : goal.behind-requires-in_default
-behind-requires-in_default c = omega (arith, char_inside c.args.s.now, char_most c.args.s.now)
-
-pub behind-requires-in_default-2 : goal.behind-requires-in_default-2
-behind-requires-in_default-2 c = omega (arith, char_inside c.args.s.now, char_most c.args.s.now)
-
-pub behind-requires-in_default-3 : goal.behind-requires-in_default-3
-behind-requires-in_default-3 c = omega (arith, char_inside c.args.s.now, char_most c.args.s.now)
 
 pub returns-in-0 : goal.returns-in-0
 returns-in-0 c = sym (point_none c.args.s.now (sym c.char_length.ensures ∙ c.in-0.is))

@@ -5,10 +5,6 @@ use borrow.Author.Tests.{le-leb, lt-leb}
 use Rattle.gap.specs.Values.{plain_by}
 use Rattle.gap.proofs.Time.plain_by.Goals as goal
 
-pub returns-in_err-base : goal.returns-in_err-base
-unfolding plain_by
-returns-in_err-base c = c.from_residual.ensures ∙ rw (← c.ticks_of.ensures, c.in_err-base.was)
-
 pub returns-then-self-base : goal.returns-then-self-base
 unfolding plain_by
 returns-then-self-base c = rw (← c.ticks_of.ensures, c.in_ok-base.was, lt-leb c.in_ok-base.base c.args.self.ticks (omega arith))

@@ -6,10 +6,6 @@ use borrow.Author.Tests.{eq-eqb, ne_eqb}
 use Rattle.gap.specs.Values.{triplet_by}
 use Rattle.gap.proofs.Time.triplet_by.Goals as goal
 
-pub returns-in_err-base : goal.returns-in_err-base
-unfolding triplet_by
-returns-in_err-base c = c.from_residual.ensures ∙ rw (← c.ticks_of.ensures, c.in_err-base.was)
-
 pub returns-then-from : goal.returns-then-from
 unfolding triplet_by
 returns-then-from c = rw (← c.ticks_of.ensures, c.in_ok-base.was, ne_eqb (c.in_ok-base.base * 2) (c.args.self.ticks * 3) (λ e. c.if-from.true (omega (arith, e, c.from.ensures, c.from-2.ensures))))

@@ -7,10 +7,6 @@ use Rattle.gap.specs.Values.{tuplet_by}
 use Rattle.gap.proofs.ValueLaws.{no_byte, a_byte}
 use Rattle.gap.proofs.Time.tuplet_by.Goals as goal
 
-pub returns-in_err-base : goal.returns-in_err-base
-unfolding tuplet_by
-returns-in_err-base c = c.from_residual.ensures ∙ rw (← c.ticks_of.ensures, c.in_err-base.was)
-
 pub returns-then-base-self : goal.returns-then-base-self
 unfolding tuplet_by
 returns-then-base-self c = rw (← c.ticks_of.ensures, c.in_ok-base.was, le-leb c.in_ok-base.base c.args.self.ticks c.if-base-self.true)
