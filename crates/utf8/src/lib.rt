@@ -56,7 +56,7 @@ fn behind(high: u32, s: &[u8], i: usize) -> u32
 }
 
 // The code point of the character at the front of s, 0 where none stands there.
-#[tactic(auto, using(crate::proofs::LengthLaws::char_inside, crate::proofs::TableLaws::char_most))]
+#[tactic(auto, using(crate::proofs::PointLaws::points))]
 pub fn code_point(s: &[u8]) -> u32
     ensures { result ≡ code_point s.now }
 {
