@@ -20,7 +20,7 @@ pub struct Length {
 }
 
 // The number that the digits write; None where a byte is no digit.
-#[tactic(auto, using(crate::proofs::Numbers::parse_first, crate::proofs::Numbers::parse_stop, crate::proofs::Numbers::parse_room, crate::proofs::Numbers::parse_past))]
+#[tactic(auto, using(crate::proofs::Numbers::parse_first, crate::proofs::Numbers::parse_stop, crate::proofs::Numbers::parse_past))]
 fn parse(digits: &[u8]) -> Option<u32>
     requires { length digits.now ≤ 4 }
     ensures { result ≡ number_of digits.now }
@@ -46,7 +46,7 @@ fn exponent(n: u32) -> u32
 }
 
 // The greatest common divisor.
-#[tactic(auto, using(crate::proofs::Divisors::euclid_first, crate::proofs::Divisors::euclid_turn))]
+#[tactic(auto, using(crate::proofs::Divisors::euclid_turn))]
 pub fn gcd(n: u32, d: u32) -> u32
     ensures { result ≡ gcd_of n d }
 {
@@ -58,7 +58,7 @@ pub fn gcd(n: u32, d: u32) -> u32
 }
 
 // The value that the reciprocal n writes.
-#[tactic(auto, using(crate::proofs::Divisors::gcd_positive, crate::proofs::Powers::base, crate::proofs::Powers::power_small, std::proofs::lemmas::Bool::Decides::nat_tests), unfolding(crate::specs::Duration::written, crate::specs::Duration::written_at))]
+#[tactic(auto, using(crate::proofs::Divisors::gcd_positive, crate::proofs::Powers::base, crate::proofs::Powers::power_small), unfolding(crate::specs::Duration::written, crate::specs::Duration::written_at))]
 fn value_of(n: u32) -> Value
     requires { (1 ≤ n) × (n ≤ 255) }
     ensures { result ≡ written n }
