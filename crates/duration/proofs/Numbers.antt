@@ -47,9 +47,6 @@ module _ {s : List ℕ} {n i : ℕ} (inv : Parse s n i) where
       ≡ cond (digit (get_or s i 0) && digits (drop (i + 1) s)) (Some (number_from (n * 10 + (get_or s i 0 - 48)) (drop (i + 1) s))) None
   at_index h = inv.same ∙ rw (drop-cons s i 0 h, add-one) (after_more n (get_or s i 0) (drop (suc i) s))
 
-  pub parse_room : i < length s → length s ≤ 4 → n < 1000
-  parse_room h few = let p : 10 ^ i ≤ 10 ^ 3 = pow-le-pow_right (lit< tt) {j = 3} (omega arith) in omega (arith, inv.small)
-
   pub parse_stop : i < length s → digit (get_or s i 0) ≡ false → None ≡ number_of s
   parse_stop h d = sym (at_index h ∙ rw d)
 
@@ -99,3 +96,6 @@ from_left n (x ∷ s) =
 
 pub number_decimal : (s : List ℕ) → number s ≡ decimal s
 number_decimal s = from_left 0 s ∙ (omega arith)
+
+-- how the loop of `parse` goes
+pub ruleset parsing = (parse_first, parse_stop, parse_past)

@@ -53,3 +53,6 @@ base {n} {k} h b =
       power = shl_exact {a = 1} 1 k 32 (lit< tt) (omega arith) ∙ (omega arith);
       low = b.0;
     }
+
+-- what the exponent's bounds give
+pub ruleset powers = (base, power_small)

@@ -20,7 +20,7 @@ pub struct Length {
 }
 
 // The number that the digits write; None where a byte is no digit.
-#[tactic(auto, using(crate::proofs::Numbers::parse_first, crate::proofs::Numbers::parse_stop, crate::proofs::Numbers::parse_past))]
+#[tactic(auto, using(crate::proofs::Numbers::parsing))]
 fn parse(digits: &[u8]) -> Option<u32>
     requires { length digits.now ≤ 4 }
     ensures { result ≡ number_of digits.now }
@@ -58,7 +58,7 @@ pub fn gcd(n: u32, d: u32) -> u32
 }
 
 // The value that the reciprocal n writes.
-#[tactic(auto, using(crate::proofs::Divisors::gcd_positive, crate::proofs::Powers::base, crate::proofs::Powers::power_small), unfolding(crate::specs::Duration::written, crate::specs::Duration::written_at))]
+#[tactic(auto, using(crate::proofs::Divisors::gcd_positive, crate::proofs::Powers::powers), unfolding(crate::specs::Duration::written, crate::specs::Duration::written_at))]
 fn value_of(n: u32) -> Value
     requires { (1 ≤ n) × (n ≤ 255) }
     ensures { result ≡ written n }
@@ -78,7 +78,7 @@ fn value_of(n: u32) -> Value
 }
 
 // The value of a reciprocal of so many digits that write n; None where there is none.
-#[tactic(auto, using(crate::proofs::Durations::is_breve, crate::proofs::Durations::told, crate::proofs::Durations::is_longa, crate::proofs::Durations::is_written, crate::proofs::Durations::no_value))]
+#[tactic(auto, using(crate::proofs::Durations::valued))]
 pub fn value_by(n: u32, long: usize) -> Option<Value>
     ensures { (s : List ℕ) → digits s ≡ true → number s ≡ n → length s ≡ long → result ≡ duration_of s }
 {
@@ -91,7 +91,7 @@ pub fn value_by(n: u32, long: usize) -> Option<Value>
 }
 
 // The value that a reciprocal's digits write; None where they write none.
-#[tactic(auto, using(crate::proofs::Durations::too_long, crate::proofs::Durations::no_digits, crate::proofs::Durations::parsed))]
+#[tactic(auto, using(crate::proofs::Durations::reciprocals))]
 pub fn kern_duration(digits: &[u8]) -> Option<Value>
     ensures { result ≡ duration_of digits.now }
 {

@@ -73,7 +73,7 @@ struct Hole {
 impl Time {
     // The ticks of a value; None where they are no whole number from 1 up to 2^32 - 1.
     // Stays: that a value is below 10 stands in four contracts; a type that says it would be made of each number of the ranges 0..10 below.
-    #[tactic(auto, using(crate::proofs::ValueLaws::unit_is, crate::proofs::ValueLaws::ticks_none, crate::proofs::ValueLaws::ticks_broken, crate::proofs::ValueLaws::ticks_by))]
+    #[tactic(auto, using(crate::proofs::ValueLaws::ticks))]
     fn ticks_of(self, value: u8) -> Option<u32>
         requires { value < 10 }
         ensures { result ≡ ticks_of self.divisions value }
@@ -168,7 +168,7 @@ impl Time {
     }
 
     // The longest value that fits.
-    #[tactic(auto, using(crate::proofs::SearchLaws::search_past, crate::proofs::SearchLaws::search_turn, crate::proofs::SearchLaws::search_found))]
+    #[tactic(auto, using(crate::proofs::SearchLaws::searching))]
     fn plain(self) -> Option<Rest>
         ensures { result ≡ longest (plain_by self.divisions self.ticks) }
     {
@@ -214,7 +214,7 @@ impl Time {
 
 impl Hole {
     // Takes the next rest out of the hole; None where it is filled.
-    #[tactic(auto, using(crate::proofs::FillLaws::hole_done, crate::proofs::FillLaws::fill_none, crate::proofs::FillLaws::fill_full))]
+    #[tactic(auto, using(crate::proofs::FillLaws::holes))]
     fn take(&mut self) -> Result<Option<Rest>, Refusal>
         ensures { Taken self.old self.new result }
     {
@@ -267,7 +267,7 @@ fn put_rest(out: &mut [u8], rest: Rest)
 }
 
 // The rests that fill a hole, into a buffer that has room for them.
-#[tactic(auto, using(crate::proofs::FillLaws::writing_first, crate::proofs::FillLaws::writing_turn, slices::proofs::StoreLaws::stored_tail, sheet::proofs::NoteLaws::note_length_lem, crate::proofs::FillLaws::writing_room))]
+#[tactic(auto, using(slices::proofs::StoreLaws::stored_tail, sheet::proofs::NoteLaws::note_length_lem, crate::proofs::FillLaws::writing))]
 fn write_rests(mut hole: Hole, out: &mut [u8])
     requires { Filling hole.room hole.left.divisions hole.left.ticks out.old }
     ensures { out.new ≡ laid (fill_from hole.room hole.left.divisions hole.left.ticks) out.old }

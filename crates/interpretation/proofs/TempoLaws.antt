@@ -78,10 +78,6 @@ module _ (n unit : ℕ) where
   unfolding rounded
   rounded_over h = let g : unit ≤ n = omega arith in rw (le-leb _ _ g, lt-leb _ _ h)
 
-  pub rounded_in : unit ≤ n → n ≤ 65535 * unit → Ok (Tempo ((2 * n + unit) / (2 * unit))) ≡ rounded n unit
-  unfolding rounded
-  rounded_in g h = rw (le-leb _ _ g, le-leb _ _ h)
-
   pub rounded_most : 0 < unit → n ≤ 65535 * unit → (2 * n + unit) / (2 * unit) < 65536
   rounded_most p h =
       let q : 0 < 2 * unit = omega arith in
@@ -177,3 +173,6 @@ unfolding tempo_of
 tempo_whole s h e =
     let l : length s ≤ suc (length s) = omega arith in
     e ∙ rw (← h, take-length s, drop_of_length-le s l)
+
+-- the early ways out of `tempo_from`
+pub ruleset tempos = (long_fraction, whole_not, fraction_not)

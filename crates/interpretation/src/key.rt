@@ -37,7 +37,7 @@ fn signature(s: &[u8]) -> Result<Interpretation, Unsupported>
 }
 
 // The key signature that the text behind `k[` gives.
-#[tactic(auto, using(crate::proofs::Exits::left, crate::proofs::KeyLaws::key_open, crate::proofs::KeyLaws::key_closed, crate::proofs::Exits::kept))]
+#[tactic(auto, using(crate::proofs::Exits::exits, crate::proofs::KeyLaws::keys))]
 pub fn key_of(s: &[u8]) -> Result<Interpretation, Unsupported>
     ensures { result ≡ key_of s.now }
 {
@@ -46,7 +46,7 @@ pub fn key_of(s: &[u8]) -> Result<Interpretation, Unsupported>
 }
 
 // The mode that a key designation gives: a tonic and a colon.
-#[tactic(auto, using(crate::proofs::KeyLaws::mode_closed, crate::proofs::KeyLaws::mode_short, crate::proofs::KeyLaws::mode_long, crate::proofs::KeyLaws::mode_open))]
+#[tactic(auto, using(crate::proofs::KeyLaws::modes))]
 pub fn mode_of(body: &[u8]) -> Result<Interpretation, Unsupported>
     ensures { result ≡ mode_of body.now }
 {

@@ -71,7 +71,7 @@ pub fn tail(s: &[u8], n: usize) -> &[u8]
 }
 
 // Whether a text begins with `M` and a digit.
-#[tactic(auto, using(crate::proofs::MarkLaws::mark_digit, crate::proofs::MarkLaws::mark_short, crate::proofs::MarkLaws::mark_not), unfolding(crate::specs::Digits::is_digit))]
+#[tactic(auto, using(crate::proofs::MarkLaws::marks), unfolding(crate::specs::Digits::is_digit))]
 fn meter_mark(body: &[u8]) -> bool
     ensures { result ≡ meter_mark body.now }
 {
@@ -79,7 +79,7 @@ fn meter_mark(body: &[u8]) -> bool
 }
 
 // Whether a text is a clef, a key signature, a meter or a mensuration sign.
-#[tactic(auto, using(crate::proofs::MarkLaws::or_then, crate::proofs::Exits::starts, crate::proofs::MarkLaws::or_else, slices::proofs::CompareLaws::starts_begins, crate::proofs::MarkLaws::attribute))]
+#[tactic(auto, using(crate::proofs::Exits::starts, slices::proofs::CompareLaws::starts_begins, crate::proofs::MarkLaws::attributes))]
 fn is_attribute(body: &[u8]) -> bool
     ensures { result ≡ is_attribute body.now }
 {
@@ -90,7 +90,7 @@ fn is_attribute(body: &[u8]) -> bool
 }
 
 // What the text behind the star says where nothing stands against it.
-#[tactic(auto, using(crate::proofs::MarkLaws::meaning_clef, crate::proofs::Exits::strips, crate::proofs::MarkLaws::meaning_key, crate::proofs::MarkLaws::meaning_meter, crate::proofs::MarkLaws::meaning_symbol, crate::proofs::MarkLaws::meaning_other))]
+#[tactic(auto, using(crate::proofs::Exits::strips, crate::proofs::MarkLaws::meanings))]
 fn meaning(body: &[u8]) -> Result<Interpretation, Unsupported>
     ensures { result ≡ meaning_of body.now }
 {
@@ -110,7 +110,7 @@ fn meaning(body: &[u8]) -> Result<Interpretation, Unsupported>
 }
 
 // What a text says that is no attribute: a tempo, a name, a key designation.
-#[tactic(auto, using(crate::proofs::MarkLaws::other_tempo, crate::proofs::Exits::strips, crate::proofs::MarkLaws::other_name, crate::proofs::Exits::starts, crate::proofs::MarkLaws::other_short, crate::proofs::MarkLaws::other_mode))]
+#[tactic(auto, using(crate::proofs::Exits::strips, crate::proofs::Exits::starts, crate::proofs::MarkLaws::others))]
 fn other(body: &[u8]) -> Result<Interpretation, Unsupported>
     ensures { result ≡ other_of body.now }
 {

@@ -21,7 +21,7 @@ impl From<Symbol> for u8 {
 }
 
 // The number that a text writes, where Rust reads it as a u8: one digit or more, 255 at most.
-#[tactic(auto, using(crate::proofs::MeterLaws::byte_none, crate::proofs::MeterLaws::byte_not, crate::proofs::MeterLaws::byte_is))]
+#[tactic(auto, using(crate::proofs::MeterLaws::bytes))]
 fn byte_number(s: &[u8]) -> Option<u8>
     ensures { result ≡ byte_number s.now }
 {
@@ -41,7 +41,7 @@ fn without_plus(s: &[u8]) -> &[u8]
 }
 
 // The meter of the texts before and behind the first `/`.
-#[tactic(auto, using(crate::proofs::Exits::left, crate::proofs::MeterLaws::meter_before, crate::proofs::Exits::kept, crate::proofs::MeterLaws::meter_behind, crate::proofs::MeterLaws::byte_small, crate::proofs::MeterLaws::meter_zero, crate::proofs::MeterLaws::meter_other, crate::proofs::MeterLaws::power_ones, crate::proofs::MeterLaws::meter_some))]
+#[tactic(auto, using(crate::proofs::Exits::exits, crate::proofs::MeterLaws::meters))]
 fn meter_from(before: &[u8], behind: &[u8]) -> Result<Interpretation, Unsupported>
     ensures { result ≡ meter_from (byte_number before.now) (byte_number behind.now) }
 {

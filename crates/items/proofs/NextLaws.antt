@@ -115,3 +115,6 @@ module _ (s : List ℕ) (i : ℕ) (h : i < length s) where
     next_mark y =
         let t = start_is single in
         next_is s i single (ap Mark (sym t) ∙ item_mark (take (i + 1 - i) (drop i s)) (λ z. omega (arith, some single)) (rw t q) n (rw t r) m (rw t y))
+
+-- the ways out of `next_item`
+pub ruleset next_items = (end_on, next_digits, next_letters, next_blank, next_mark)

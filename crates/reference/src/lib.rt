@@ -80,7 +80,7 @@ fn space(b: u8) -> bool
 }
 
 // How many bytes the white characters at the front of s have.
-#[tactic(auto, using(crate::proofs::LoopLaws::ink_stop, crate::proofs::LoopLaws::space_turn, crate::proofs::LoopLaws::leading_done, std::proofs::lemmas::Bool::Decides::nat_tests, crate::proofs::LoopLaws::leading_turn, crate::proofs::LoopLaws::leading_past))]
+#[tactic(auto, using(std::proofs::lemmas::Bool::Decides::nat_tests, crate::proofs::LoopLaws::leading))]
 pub fn leading_white(s: &[u8]) -> usize
     ensures { (result ≡ leading_white s.now) × (result ≤ length s.now) }
 {
@@ -106,7 +106,7 @@ pub fn leading_white(s: &[u8]) -> usize
 
 // Where s ends without the white characters at its end, character by character from the front. A call: few texts come here.
 #[inline(never)]
-#[tactic(auto, using(crate::proofs::LoopLaws::ink_turn, crate::proofs::LoopLaws::end_turn, std::proofs::lemmas::Bool::Decides::nat_tests, crate::proofs::LoopLaws::end_turn_white, crate::proofs::LoopLaws::end_past))]
+#[tactic(auto, using(std::proofs::lemmas::Bool::Decides::nat_tests, crate::proofs::LoopLaws::last_ends))]
 fn last_end(s: &[u8]) -> usize
     ensures { (result ≡ trimmed_end s.now) × (result ≤ length s.now) }
 {
@@ -129,7 +129,7 @@ fn last_end(s: &[u8]) -> usize
 }
 
 // Where s ends without the white characters at its end; from the end, as long as they are ASCII.
-#[tactic(auto, using(crate::proofs::EndLaws::ending_first, crate::proofs::EndLaws::ending_here, crate::proofs::EndLaws::ending_cut, crate::proofs::EndLaws::ending_turn, crate::proofs::EndLaws::ending_past))]
+#[tactic(auto, using(crate::proofs::EndLaws::endings))]
 pub fn trimmed_end(s: &[u8]) -> usize
     ensures { (result ≡ trimmed_end s.now) × (result ≤ length s.now) }
 {

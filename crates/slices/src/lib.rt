@@ -7,7 +7,7 @@ ghost use Rattle.slices.specs.Compare.{same_bytes, begins_with};
 ghost use Rattle.slices.specs.Store.{stored};
 
 // The index of the first b, or the length where there is none.
-#[tactic(auto, using(crate::proofs::SearchLaws::search_on, crate::proofs::SearchLaws::search_here, crate::proofs::SearchLaws::search_end))]
+#[tactic(auto, using(crate::proofs::SearchLaws::searching))]
 pub fn find(s: &[u8], b: u8) -> usize
     ensures { (result ≡ index_of b s.now) × (result ≤ length s.now) }
 {

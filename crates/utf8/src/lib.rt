@@ -5,7 +5,7 @@ ghost use Rattle.std.specs.Prelude.{◌≡◌, true, cond, ◌∷◌, ℕ, ◌+�
 ghost use Rattle.utf8.specs.Utf8.{tails, begins, char_length, utf8_length, Passed, code_point};
 
 // Whether the byte at i lies in lo..=hi.
-#[tactic(auto, using(crate::proofs::RowLaws::upto, std::proofs::lemmas::Bool::Decides::nat_tests, crate::proofs::RowLaws::under, crate::proofs::RowLaws::past))]
+#[tactic(auto, using(std::proofs::lemmas::Bool::Decides::nat_tests, crate::proofs::RowLaws::ranges))]
 fn between(s: &[u8], i: usize, lo: u8, hi: u8) -> bool
     ensures { result ≡ begins ((lo, hi) ∷ tails 0) (drop i s.now) }
 {
@@ -157,7 +157,7 @@ fn onward(s: &[u8], i: usize) -> usize
 }
 
 // The length of the longest well-formed part of s from its start.
-#[tactic(auto, using(crate::proofs::BlockLaws::blocks_first, crate::proofs::BlockLaws::length_done, crate::proofs::BlockLaws::blocks_on, crate::proofs::BlockLaws::length_past))]
+#[tactic(auto, using(crate::proofs::BlockLaws::lengths))]
 pub fn utf8_length(s: &[u8]) -> usize
     ensures { (result ≡ utf8_length s.now) × (result ≤ length s.now) }
 {

@@ -1,7 +1,5 @@
 -- `gcd`: Euclid's algorithm. The pair keeps its divisor, in as many steps as are left, which b bounds.
-use native.Mathlib.Nat.{mod-lt}
-use native.Mathlib.Omega.{arith}
-use Rattle.duration.proofs.Divisors.{euclid_first, euclid_turn, euclid_past}
+use Rattle.duration.proofs.Divisors.{euclid_past}
 use Rattle.duration.proofs.gcd.Goals as goal
 
 pub returns : goal.returns

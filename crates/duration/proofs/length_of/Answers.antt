@@ -1,6 +1,5 @@
 -- `length_of`: the product of three factors, which fits 32 bits.
 use native.Mathlib.Omega.{arith}
-use Rattle.duration.specs.Length.{note_length}
 use Rattle.duration.proofs.Lengths.{two_fit, all_fit}
 use Rattle.duration.proofs.length_of.Goals as goal
 

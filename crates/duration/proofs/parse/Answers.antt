@@ -1,7 +1,6 @@
 -- `parse`: the number that the digits write. The digits from the index on, read after n, decide; n has at most as many places as were read.
 use mathlib.Core.Path.{sym, ◌∙◌}
-use native.Mathlib.Omega.{arith}
-use Rattle.duration.proofs.Numbers.{parse_first, parse_room, parse_stop, parse_turn, parse_past}
+use Rattle.duration.proofs.Numbers.{parse_turn}
 use Rattle.duration.proofs.parse.Goals as goal
 
 pub loop-d-preserved : goal.loop-d-preserved

@@ -2,8 +2,7 @@
 use Rattle.std.proofs.Common.{rules}
 use Rattle.std.specs.Prelude.{Err}
 use mathlib.Core.Path.{◌≡◌, sym, subst, ◌∙◌}
-use native.Mathlib.Omega.{arith}
-use Rattle.gap.proofs.AnswerLaws.{Answers, turned_away, few_bytes, too_short, can_fill, is_filled}
+use Rattle.gap.proofs.AnswerLaws.{Answers, turned_away, too_short, is_filled}
 use Rattle.gap.proofs.gap_rests.Goals as goal
 
 pub returns-in_err-long : goal.returns-in_err-long

@@ -1,6 +1,6 @@
 -- A star alone, an attribute after a note, or what the text behind the star says.
 use borrow.Author.Rules.{rules}
-use Rattle.interpretation.proofs.MarkLaws.{says_nothing, says_late, says_first, says_after}
+use Rattle.interpretation.proofs.MarkLaws.{says_first, says_after}
 use Rattle.interpretation.proofs.interpret.Goals as goal
 use Rattle.interpretation.proofs.interpret.Goals.{else-noted-via-then-noted+else-is_attribute, else-noted-via-else-noted}
 

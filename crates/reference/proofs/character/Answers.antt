@@ -1,6 +1,5 @@
 -- `character`: the text from i on begins with it.
-use native.Mathlib.Omega.{arith}
-use Rattle.reference.proofs.LoopLaws.{width_fits, character_at}
+use Rattle.reference.proofs.LoopLaws.{character_at}
 use Rattle.reference.proofs.character.Goals as goal
 
 pub returns : goal.returns

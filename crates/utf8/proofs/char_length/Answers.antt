@@ -2,8 +2,7 @@
 use mathlib.Core.Path.{sym, ◌∙◌}
 use native.Mathlib.Omega.{arith}
 use Rattle.utf8.specs.Utf8.{table, begins}
-use Rattle.utf8.proofs.LengthLaws.{char_empty}
-use Rattle.utf8.proofs.RowLaws.{row, leads, leads_none, leads_three}
+use Rattle.utf8.proofs.RowLaws.{row, leads}
 use Rattle.utf8.proofs.char_length.Goals as goal
 
 pub returns-in-0-to-127 : goal.returns-in-0-to-127

@@ -1,7 +1,7 @@
 -- What comes out of a hole is what the definition takes.
 use mathlib.Core.Path.{refl, sym, ◌∙◌}
 use native.Mathlib.Omega.{arith}
-use Rattle.gap.proofs.FillLaws.{hole_done, fill_none, fill_full, fill_more, takes}
+use Rattle.gap.proofs.FillLaws.{fill_more, takes}
 use Rattle.gap.proofs.Hole.take.Goals as goal
 
 pub overflow_sub-self-2 : goal.overflow_sub-self-2

@@ -1,7 +1,7 @@
 -- The bytes so far are digits, and what is left decides.
 use mathlib.Core.Path.{sym, ◌∙◌}
 use Rattle.interpretation.specs.Digits.{is_digit}
-use Rattle.interpretation.proofs.DigitLaws.{reading_first, reading_turn, reading_not, reading_past}
+use Rattle.interpretation.proofs.DigitLaws.{reading_turn}
 use Rattle.interpretation.proofs.digits.number_up_to.Goals as goal
 
 pub loop-d-preserved : goal.loop-d-preserved

@@ -1,5 +1,5 @@
 -- By the tests that led to each answer.
-use Rattle.interpretation.proofs.KeyLaws.{steps_odd, steps_sharp, steps_flat, steps_other}
+use Rattle.interpretation.proofs.KeyLaws.{steps_sharp, steps_flat, steps_other}
 use Rattle.interpretation.proofs.key.signature.Goals as goal
 
 pub returns-then-starts_with : goal.returns-then-starts_with

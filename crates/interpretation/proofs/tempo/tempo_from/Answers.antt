@@ -1,8 +1,8 @@
 -- A whole part held at 65,536 is out of range as it was before.
 use mathlib.Core.Path.{◌∙◌}
 use native.Mathlib.Omega.{arith}
-use Rattle.interpretation.proofs.Exits.{left, kept}
-use Rattle.interpretation.proofs.TempoLaws.{long_fraction, whole_not, fraction_not, parts_fit, tempo_by}
+use Rattle.interpretation.proofs.Exits.{kept}
+use Rattle.interpretation.proofs.TempoLaws.{parts_fit, tempo_by}
 use Rattle.interpretation.proofs.tempo.tempo_from.Goals as goal
 
 pub overflow_mul-units : goal.overflow_mul-units
