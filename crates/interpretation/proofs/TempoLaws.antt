@@ -10,7 +10,7 @@ use lib.Dec.{leb}
 use lib.ListN.{length, take, drop, drop_of_length-le}
 use lib.Seq.{take-length}
 use borrow.Author.Tests.{le-leb, lt-leb, leb-true, leb-false}
-use Rattle.std.proofs.Common.{Some, None, Option, Ok, Err, Result}
+use Rattle.std.proofs.Common.{Some, None, Option, Err, Result}
 use Rattle.slices.specs.Split.{index_of}
 use Rattle.slices.proofs.PieceLaws.{rest}
 use Rattle.slices.proofs.TestLaws.{both}
@@ -19,7 +19,6 @@ use Rattle.interpretation.specs.Digits.{is_digit, all_digits, decimal_on, decima
 use Rattle.interpretation.specs.Number.{number_up_to}
 use Rattle.interpretation.specs.Tempo.{rounded, tempo_from, tempo_of}
 use Rattle.interpretation.specs.declared.Interpretation.{Interpretation}
-use Rattle.interpretation.specs.declared.Interpretation.TheVariants.{Tempo}
 use Rattle.interpretation.specs.declared.Unsupported.{Unsupported}
 use Rattle.interpretation.specs.declared.Unsupported.TheVariants.{OtherTempo}
 

@@ -8,7 +8,7 @@ use mathlib.Core.Bool.{Bool, true, false, and-false}
 use lib.Dec.{leb, eqb}
 use lib.ListN.{length, take, drop, get_or, length-drop}
 use lib.Seq.{drop-cons, get_or-drop, get_or-take, length-take-le}
-use borrow.Author.Tests.{lt-leb, eq-eqb, ne_eqb, eqb-true, eqb-false}
+use borrow.Author.Tests.{lt-leb, eq-eqb, eqb-true, eqb-false}
 use Rattle.pitch.specs.Pitch.{within}
 use Rattle.pitch.proofs.Letters.{within_low}
 use Rattle.duration.specs.Duration.{duration_of}

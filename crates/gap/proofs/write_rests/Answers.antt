@@ -1,6 +1,5 @@
 -- The rests that are left fill the rest of the hole; with them the buffer is as at the end.
 use Rattle.std.proofs.Common.{rules}
-use mathlib.Core.Path.{◌∙◌}
 use Rattle.gap.proofs.FillLaws.{writing_end}
 use Rattle.gap.proofs.write_rests.Goals as goal
 

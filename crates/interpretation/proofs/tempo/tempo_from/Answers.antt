@@ -1,5 +1,4 @@
 -- A whole part held at 65,536 is out of range as it was before.
-use mathlib.Core.Path.{◌∙◌}
 use native.Mathlib.Omega.{arith}
 use Rattle.interpretation.proofs.Exits.{kept}
 use Rattle.interpretation.proofs.TempoLaws.{parts_fit, tempo_by}
