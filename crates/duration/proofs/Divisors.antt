@@ -14,9 +14,6 @@ pub record Euclid (a b g : ℕ) : Type 0 where
   pub enough : b ≤ steps
   pub same : gcd_in steps a b ≡ g
 
-pub euclid_first : (a b : ℕ) → Euclid a b (gcd_of a b)
-euclid_first a b = record { steps = b; enough = le_refl _; same = refl }
-
 pub euclid_turn : {a b g : ℕ} → Euclid a b g → (b ≡ 0 → ⊥) → Euclid b (a % b) g
 unfolding gcd_in
 euclid_turn {a} {b} {g} l nz = go l.steps l.enough l.same

@@ -125,3 +125,9 @@ no_value s {n} d e a b c =
     let w : decimal s ≡ n = worth s n (told s d e) in
     missing s (λ q. let z : decimal s ≡ 0 = ap decimal q in a (omega arith) (ap length q)) (λ q. let z : decimal s ≡ 0 = ap decimal q in b (omega arith) (ap length q))
     (λ x. c (omega (arith, x.low)) (omega (arith, x.high)) x.few)
+
+-- the ways out of `value_by`
+pub ruleset valued = (is_breve, told, is_longa, is_written, no_value)
+
+-- the ways out of `kern_duration`
+pub ruleset reciprocals = (too_long, no_digits, parsed)

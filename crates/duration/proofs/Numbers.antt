@@ -3,7 +3,7 @@ use mathlib.Core.Path.{◌≡◌, refl, sym, ap, ◌∙◌}
 use mathlib.Core.Bool.{true, false, cond, ◌&&◌}
 use mathlib.Core.List.{List, [], ◌∷◌}
 use Prim.Native.Nat.{ℕ, zero, suc, ◌+◌, ◌-◌, ◌*◌, ◌^◌, ◌≤◌, ◌<◌}
-use native.Mathlib.Nat.{pow-suc, pow-le-pow_right, le_of_suc-le-suc, not-suc-le-zero, mul_assoc, mul_comm, add-mul}
+use native.Mathlib.Nat.{pow-suc, le_of_suc-le-suc, not-suc-le-zero, mul_assoc, mul_comm, add-mul}
 use native.Mathlib.Numerals.{add-one}
 use native.Mathlib.Omega.{arith}
 use lib.Dec.{leb, lit<}
@@ -46,9 +46,6 @@ module _ {s : List ℕ} {n i : ℕ} (inv : Parse s n i) where
       → number_of s
       ≡ cond (digit (get_or s i 0) && digits (drop (i + 1) s)) (Some (number_from (n * 10 + (get_or s i 0 - 48)) (drop (i + 1) s))) None
   at_index h = inv.same ∙ rw (drop-cons s i 0 h, add-one) (after_more n (get_or s i 0) (drop (suc i) s))
-
-  pub parse_room : i < length s → length s ≤ 4 → n < 1000
-  parse_room h few = let p : 10 ^ i ≤ 10 ^ 3 = pow-le-pow_right (lit< tt) {j = 3} (omega arith) in omega (arith, inv.small)
 
   pub parse_stop : i < length s → digit (get_or s i 0) ≡ false → None ≡ number_of s
   parse_stop h d = sym (at_index h ∙ rw d)
@@ -99,3 +96,6 @@ from_left n (x ∷ s) =
 
 pub number_decimal : (s : List ℕ) → number s ≡ decimal s
 number_decimal s = from_left 0 s ∙ (omega arith)
+
+-- how the loop of `parse` goes
+pub ruleset parsing = (parse_first, parse_stop, parse_past)

@@ -33,6 +33,10 @@ exponent_is (suc f) k n le lo hi =
 exponent_small : (j k n : ℕ) → 2 ^ k ≤ n → n < 2 ^ j → k < j
 exponent_small j k n lo hi = lt_of_not-le (λ (h : j ≤ k). let m : 2 ^ j ≤ 2 ^ k = pow_mono h in omega arith)
 
+-- a power of two that is a byte
+pub power_small : (k : ℕ) → 2 ^ k ≤ 255 → k < 8
+power_small k h = exponent_small 8 k (2 ^ k) (omega arith) (omega arith)
+
 -- of a reciprocal up to 255 the exponent is below 8, and the shift gives the power
 pub record Base (n k : ℕ) : Type 0 where
   pub small : k < 8
@@ -49,3 +53,6 @@ base {n} {k} h b =
       power = shl_exact {a = 1} 1 k 32 (lit< tt) (omega arith) ∙ (omega arith);
       low = b.0;
     }
+
+-- what the exponent's bounds give
+pub ruleset powers = (base, power_small)

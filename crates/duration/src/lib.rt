@@ -20,6 +20,7 @@ pub struct Length {
 }
 
 // The number that the digits write; None where a byte is no digit.
+#[tactic(auto, using(crate::proofs::Numbers::parsing))]
 fn parse(digits: &[u8]) -> Option<u32>
     requires { length digits.now ≤ 4 }
     ensures { result ≡ number_of digits.now }
@@ -36,6 +37,7 @@ fn parse(digits: &[u8]) -> Option<u32>
 
 // The exponent of the largest power of two not above n.
 // Stays: a rule of the project: the base value comes from the leading zeros, proved as the power's bounds, where `ilog2` would be shorter.
+#[tactic(auto, using(crate::proofs::Powers::leading))]
 fn exponent(n: u32) -> u32
     requires { 1 ≤ n }
     ensures { (2 ^ result ≤ n) × (n < 2 ^ (result + 1)) }
@@ -44,6 +46,7 @@ fn exponent(n: u32) -> u32
 }
 
 // The greatest common divisor.
+#[tactic(auto, using(crate::proofs::Divisors::euclid_turn))]
 pub fn gcd(n: u32, d: u32) -> u32
     ensures { result ≡ gcd_of n d }
 {
@@ -55,6 +58,7 @@ pub fn gcd(n: u32, d: u32) -> u32
 }
 
 // The value that the reciprocal n writes.
+#[tactic(auto, using(crate::proofs::Divisors::gcd_positive, crate::proofs::Powers::powers), unfolding(crate::specs::Duration::written, crate::specs::Duration::written_at))]
 fn value_of(n: u32) -> Value
     requires { (1 ≤ n) × (n ≤ 255) }
     ensures { result ≡ written n }
@@ -74,6 +78,7 @@ fn value_of(n: u32) -> Value
 }
 
 // The value of a reciprocal of so many digits that write n; None where there is none.
+#[tactic(auto, using(crate::proofs::Durations::valued))]
 pub fn value_by(n: u32, long: usize) -> Option<Value>
     ensures { (s : List ℕ) → digits s ≡ true → number s ≡ n → length s ≡ long → result ≡ duration_of s }
 {
@@ -86,6 +91,7 @@ pub fn value_by(n: u32, long: usize) -> Option<Value>
 }
 
 // The value that a reciprocal's digits write; None where they write none.
+#[tactic(auto, using(crate::proofs::Durations::reciprocals))]
 pub fn kern_duration(digits: &[u8]) -> Option<Value>
     ensures { result ≡ duration_of digits.now }
 {
@@ -141,6 +147,7 @@ fn tuplet_factor(actual: u8, normal: u8) -> Length
 }
 
 // How long a note lasts, in whole notes.
+#[tactic(auto, using(crate::proofs::Lengths::two_fit, crate::proofs::Lengths::all_fit), unfolding(crate::specs::Length::note_length))]
 pub fn length_of(value: u8, dots: u8, actual: u8, normal: u8, grace: bool) -> Length
     ensures { result ≡ note_length value dots actual normal grace }
 {

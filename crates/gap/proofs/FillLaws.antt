@@ -59,32 +59,10 @@ module _ (d left : ℕ) (some : left ≡ 0 → ⊥) where
 
 -- ---- counting
 
-counted_more : (n : ℕ) (x : Note) (f : Fill) → counted n (more x f) ≡ counted (n + 1) f
-counted_more n x (Err e) = refl
-counted_more n x (Ok ns) = ap Ok (omega arith)
-
 -- what the rest of a hole comes to behind n rests is what the hole comes to
 pub record Counting (all now : Hole) (n : ℕ) : Type 0 where
   pub same : counted n (fill_hole now) ≡ counted 0 (fill_hole all)
   pub few : n + now.room ≡ all.room
-
-pub counting_first : {h : Hole} → Counting h h 0
-counting_first = record { same = refl; few = omega arith }
-
-module _ {all old : Hole} {n : ℕ} (inv : Counting all old n) where
-  pub counting_turn : {new : Hole} {r : Rest} → Leaves old new r → Counting all new (n + 1)
-  counting_turn {new} {r} l = record {
-    same = sym (ap (counted n) l.fills ∙ counted_more n (rest_note r) (fill_hole new)) ∙ inv.same;
-    few = omega (arith, l.room, inv.few);
-  }
-
-  pub counting_done : fill_hole old ≡ Ok [] → Ok n ≡ counted 0 (fill_hole all)
-  counting_done e =
-      let k : n ≡ n + 0 = omega arith in
-      ap Ok k ∙ sym (ap (counted n) e) ∙ inv.same
-
-  pub counting_turned : {e : Refusal} → fill_hole old ≡ Err e → Err e ≡ counted 0 (fill_hole all)
-  counting_turned e = sym (ap (counted n) e) ∙ inv.same
 
 -- ---- writing
 
@@ -249,3 +227,9 @@ fill_fits free d ticks = every_hole d (λ f k x. InWidth x) (λ f. tt) (λ f k. 
     more_fits : (free ticks : ℕ) (r : Rest) (f : Fill) → Serves d ticks r → InWidth f → InWidth (more (rest_note r) f)
     more_fits free ticks r (Err e) s h = tt
     more_fits free ticks r (Ok ns) s h = (rest_fits s, h)
+
+-- the ways out of `take`
+pub ruleset holes = (hole_done, fill_none, fill_full)
+
+-- how the loop of `write_rests` goes
+pub ruleset writing = (writing_first, writing_turn, writing_room)

@@ -136,9 +136,6 @@ pub record Search (by : ℕ → Option Rest) (v : ℕ) : Type 0 where
   pub high : v ≤ 10
   pub same : longest_from by (10 - v) v ≡ longest by
 
-pub search_first : {by : ℕ → Option Rest} → Search by 0
-search_first = record { high = omega arith; same = refl }
-
 module _ {by : ℕ → Option Rest} {v : ℕ} (inv : Search by v) where
   pub search_past : v ≡ 10 → None ≡ longest by
   unfolding longest_from
@@ -207,3 +204,6 @@ module _ {F : Type 0} (g : Mut F (ℕ × Unit {0}) Bool) (f : F) (d ticks : ℕ)
       → SomeRun nat_range_steps (record { start = 0; end = 10 }) (λ p. MatchBool result (AnyItemGives p g f true) (IsTrue p.whole × AllItemsGive p g f false))
       → result ≡ is_exact d ticks 10 0
   exact_is result run = exact_by result run.0 (subst (λ s. ItemsCountUp run.0 s.start s.end) run.1 (range_runs run.0 run.0.seen)) run.2
+
+-- how the loop of `plain` goes
+pub ruleset searching = (search_past, search_turn, search_found)

@@ -78,12 +78,5 @@ module _ (divisions value : ℕ) {all unit : ℕ} (is_all : all ≡ divisions * 
       go (Err x) h =
           ap (λ (b : Bool). cond b (Some (divisions * 16 / 2 ^ value)) None) (sym (lt-leb (divisions * 16 / 2 ^ value) 4294967295 (omega (arith, h, quotient))))
 
--- a number that is no byte, and one that is
-module _ {E : Type 0} (n : ℕ) where
-  pub no_byte : (r : Result ℕ E) → OkIff r (n < 2 ^ 8) n → result_ok r ≡ None → leb n 255 ≡ false
-  no_byte (Ok x) h e = clash cc
-  no_byte (Err x) h e = lt-leb n 255 (omega (arith, h))
-
-  pub a_byte : (r : Result ℕ E) → OkIff r (n < 2 ^ 8) n → {x : ℕ} → result_ok r ≡ Some x → (leb n 255 ≡ true) × (x ≡ n)
-  a_byte (Ok y) h {x} e = let same : y ≡ x = cc in (le-leb n 255 (omega (arith, h.0)), omega (arith, same, h.1))
-  a_byte (Err y) h e = clash cc
+-- the ways out of `ticks_of`
+pub ruleset ticks = (unit_is, ticks_none, ticks_broken, ticks_by)

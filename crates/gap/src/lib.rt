@@ -73,6 +73,7 @@ struct Hole {
 impl Time {
     // The ticks of a value; None where they are no whole number from 1 up to 2^32 - 1.
     // Stays: that a value is below 10 stands in four contracts; a type that says it would be made of each number of the ranges 0..10 below.
+    #[tactic(auto, using(crate::proofs::ValueLaws::ticks))]
     fn ticks_of(self, value: u8) -> Option<u32>
         requires { value < 10 }
         ensures { result ≡ ticks_of self.divisions value }
@@ -86,6 +87,7 @@ impl Time {
     }
 
     // A value in a triplet that lasts all the ticks.
+    #[tactic(auto, unfolding(crate::specs::Values::triplet_by))]
     fn triplet_by(self, value: u8) -> Option<Rest>
         requires { value < 10 }
         ensures { result ≡ triplet_by self.divisions self.ticks value }
@@ -103,6 +105,7 @@ impl Time {
     }
 
     // A longer value in a tuplet that lasts all the ticks.
+    #[tactic(auto, using(duration::proofs::Divisors::gcd_positive), unfolding(crate::specs::Values::tuplet_by))]
     fn tuplet_by(self, value: u8) -> Option<Rest>
         requires { value < 10 }
         ensures { result ≡ tuplet_by self.divisions self.ticks value }
@@ -123,6 +126,7 @@ impl Time {
     }
 
     // A value that fits.
+    #[tactic(auto, unfolding(crate::specs::Values::plain_by))]
     fn plain_by(self, value: u8) -> Option<Rest>
         requires { value < 10 }
         ensures { result ≡ plain_by self.divisions self.ticks value }
@@ -164,6 +168,7 @@ impl Time {
     }
 
     // The longest value that fits.
+    #[tactic(auto, using(crate::proofs::SearchLaws::searching))]
     fn plain(self) -> Option<Rest>
         ensures { result ≡ longest (plain_by self.divisions self.ticks) }
     {
@@ -191,6 +196,7 @@ impl Time {
     }
 
     // The same; of more ticks than a longa has, no value but the longa serves.
+    #[tactic(auto, using(crate::proofs::LongaLaws::next_longa))]
     fn next_rest(self) -> Option<Rest>
         ensures { result ≡ next_rest self.divisions self.ticks }
     {
@@ -208,6 +214,7 @@ impl Time {
 
 impl Hole {
     // Takes the next rest out of the hole; None where it is filled.
+    #[tactic(auto, using(crate::proofs::FillLaws::holes))]
     fn take(&mut self) -> Result<Option<Rest>, Refusal>
         ensures { Taken self.old self.new result }
     {
@@ -260,6 +267,7 @@ fn put_rest(out: &mut [u8], rest: Rest)
 }
 
 // The rests that fill a hole, into a buffer that has room for them.
+#[tactic(auto, using(slices::proofs::StoreLaws::stored_tail, sheet::proofs::NoteLaws::note_length_lem, crate::proofs::FillLaws::writing))]
 fn write_rests(mut hole: Hole, out: &mut [u8])
     requires { Filling hole.room hole.left.divisions hole.left.ticks out.old }
     ensures { out.new ≡ laid (fill_from hole.room hole.left.divisions hole.left.ticks) out.old }
@@ -273,6 +281,7 @@ fn write_rests(mut hole: Hole, out: &mut [u8])
 
 // Fills a hole of so many ticks, at so many divisions to the quarter, with hidden rests at the start of a lent buffer; `notes` is how
 // many notes the voice has. The length of the rests.
+#[tactic(auto, using(crate::proofs::AnswerLaws::few_bytes, crate::proofs::AnswerLaws::can_fill))]
 pub fn gap_rests(ticks: u32, divisions: u32, notes: u32, out: &mut [u8]) -> Result<usize, Refusal>
     ensures answer { numbers_of result ≡ gap_answer ticks divisions notes out.old }
     ensures buffer { out.new ≡ gap_buffer ticks divisions notes out.old }

@@ -95,3 +95,6 @@ number_is m s {r} {n} e q = go (all_digits s) e
     go : (b : Bool) → r ≡ cond b (Some (min (decimal s) m)) None → (b ≡ true) × (n ≡ min (decimal s) m)
     go true p = (refl, cc)
     go false p = (cc, cc)
+
+-- how the loop of `number_up_to` goes
+pub ruleset reading = (reading_first, reading_not, reading_past)

@@ -43,3 +43,6 @@ strips (x ∷ p) (y ∷ s) e = rw (strips p s refl) e
 
 pub starts : (p s : List ℕ) {b c : Bool} → b ≡ pointwise eqb p (take (length p) s) → b ≡ c → begins_with p s ≡ c
 starts p s e f = sym (e ∙ starts_begins p s) ∙ f
+
+-- what `?` leaves and keeps
+pub ruleset exits = (left, kept)

@@ -119,3 +119,9 @@ module _ (s : List ℕ) where
       let l : length (take (length s - 1) s) ≤ 3 = omega (arith, tonic_length) in
       let p : 0 < length s - 1 = omega arith in
       rw (le-leb _ _ l, eq-eqb _ _ e, get_or-take (length s - 1) s 0 0 p)
+
+-- the ways out of `key_of`
+pub ruleset keys = (key_open, key_closed)
+
+-- the ways out of `mode_of`
+pub ruleset modes = (mode_closed, mode_short, mode_long, mode_open)

@@ -113,3 +113,15 @@ module _ (token : List ℕ) (noted : Bool) {body : List ℕ} (e : body ≡ drop 
       pub says_after : {r : Result Interpretation Unsupported} → a ≡ false → r ≡ meaning_of body → r ≡ interpretation_of token noted
       unfolding interpretation_of
       says_after t m = m ∙ rw (behind, n, ← e, sym p ∙ t)
+
+-- the ways out of `meter_mark`
+pub ruleset marks = (mark_digit, mark_short, mark_not)
+
+-- how the four tests of `is_attribute` join
+pub ruleset attributes = (or_then, or_else, attribute)
+
+-- the ways out of `meaning`
+pub ruleset meanings = (meaning_clef, meaning_key, meaning_meter, meaning_symbol, meaning_other)
+
+-- the ways out of `other`
+pub ruleset others = (other_tempo, other_name, other_short, other_mode)

@@ -125,3 +125,9 @@ module _ (s : List ℕ) {at : ℕ} (found : (at ≡ index_of 47 s) × (at < leng
   cut p e =
       let h : index_of 47 s < length s = omega arith in
       e ∙ rw (lt-ltb _ _ h, p, rest s (at + 1), add-one at, found.0)
+
+-- the ways out of `byte_number`
+pub ruleset bytes = (byte_none, byte_not, byte_is)
+
+-- the ways out of `meter_from`
+pub ruleset meters = (meter_before, meter_behind, byte_small, meter_zero, meter_other, power_ones, meter_some)

@@ -10,7 +10,7 @@ use lib.Dec.{leb}
 use lib.ListN.{length, take, drop, drop_of_length-le}
 use lib.Seq.{take-length}
 use borrow.Author.Tests.{le-leb, lt-leb, leb-true, leb-false}
-use Rattle.std.proofs.Common.{Some, None, Option, Ok, Err, Result}
+use Rattle.std.proofs.Common.{Some, None, Option, Err, Result}
 use Rattle.slices.specs.Split.{index_of}
 use Rattle.slices.proofs.PieceLaws.{rest}
 use Rattle.slices.proofs.TestLaws.{both}
@@ -19,7 +19,6 @@ use Rattle.interpretation.specs.Digits.{is_digit, all_digits, decimal_on, decima
 use Rattle.interpretation.specs.Number.{number_up_to}
 use Rattle.interpretation.specs.Tempo.{rounded, tempo_from, tempo_of}
 use Rattle.interpretation.specs.declared.Interpretation.{Interpretation}
-use Rattle.interpretation.specs.declared.Interpretation.TheVariants.{Tempo}
 use Rattle.interpretation.specs.declared.Unsupported.{Unsupported}
 use Rattle.interpretation.specs.declared.Unsupported.TheVariants.{OtherTempo}
 
@@ -77,10 +76,6 @@ module _ (n unit : ℕ) where
   pub rounded_over : 65535 * unit < n → Err OtherTempo ≡ rounded n unit
   unfolding rounded
   rounded_over h = let g : unit ≤ n = omega arith in rw (le-leb _ _ g, lt-leb _ _ h)
-
-  pub rounded_in : unit ≤ n → n ≤ 65535 * unit → Ok (Tempo ((2 * n + unit) / (2 * unit))) ≡ rounded n unit
-  unfolding rounded
-  rounded_in g h = rw (le-leb _ _ g, le-leb _ _ h)
 
   pub rounded_most : 0 < unit → n ≤ 65535 * unit → (2 * n + unit) / (2 * unit) < 65536
   rounded_most p h =
@@ -177,3 +172,6 @@ unfolding tempo_of
 tempo_whole s h e =
     let l : length s ≤ suc (length s) = omega arith in
     e ∙ rw (← h, take-length s, drop_of_length-le s l)
+
+-- the early ways out of `tempo_from`
+pub ruleset tempos = (long_fraction, whole_not, fraction_not)

@@ -29,7 +29,7 @@ impl From<Clef> for u8 {
 }
 
 // The clef that the text behind `clef` names.
-#[tactic(auto, using(crate::proofs::WordLaws::other_clef), unfolding(crate::specs::Clef::clefs))]
+#[tactic(auto, using(crate::proofs::WordLaws::other_clef, crate::proofs::WordLaws::is_clef), unfolding(crate::specs::Clef::clefs, crate::specs::Clef::clef_of, crate::specs::Words::named, slices::specs::Compare::same_bytes))]
 pub fn clef_of(s: &[u8]) -> Result<Interpretation, Unsupported>
     ensures { result ≡ clef_of s.now }
 {

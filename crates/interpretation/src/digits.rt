@@ -3,6 +3,7 @@ ghost use Rattle.std.specs.Prelude.{◌≡◌};
 ghost use Rattle.interpretation.specs.Number.{number_up_to};
 
 // The number that digits write, `most` where it is greater; none where a byte is no digit.
+#[tactic(auto, using(crate::proofs::DigitLaws::reading), unfolding(crate::specs::Digits::is_digit))]
 pub fn number_up_to(s: &[u8], most: u32) -> Option<u64>
     ensures { result ≡ number_up_to most s.now }
 {

@@ -20,6 +20,7 @@ impl From<Mode> for u8 {
 }
 
 // The key signature that stands between the brackets: the first steps of one of two orders.
+#[tactic(auto, using(crate::proofs::KeyLaws::steps_odd))]
 fn signature(s: &[u8]) -> Result<Interpretation, Unsupported>
     ensures { result ≡ signature_of s.now }
 {
@@ -36,6 +37,7 @@ fn signature(s: &[u8]) -> Result<Interpretation, Unsupported>
 }
 
 // The key signature that the text behind `k[` gives.
+#[tactic(auto, using(crate::proofs::Exits::exits, crate::proofs::KeyLaws::keys))]
 pub fn key_of(s: &[u8]) -> Result<Interpretation, Unsupported>
     ensures { result ≡ key_of s.now }
 {
@@ -44,6 +46,7 @@ pub fn key_of(s: &[u8]) -> Result<Interpretation, Unsupported>
 }
 
 // The mode that a key designation gives: a tonic and a colon.
+#[tactic(auto, using(crate::proofs::KeyLaws::modes))]
 pub fn mode_of(body: &[u8]) -> Result<Interpretation, Unsupported>
     ensures { result ≡ mode_of body.now }
 {

@@ -71,6 +71,7 @@ pub fn tail(s: &[u8], n: usize) -> &[u8]
 }
 
 // Whether a text begins with `M` and a digit.
+#[tactic(auto, using(crate::proofs::MarkLaws::marks), unfolding(crate::specs::Digits::is_digit))]
 fn meter_mark(body: &[u8]) -> bool
     ensures { result ≡ meter_mark body.now }
 {
@@ -78,6 +79,7 @@ fn meter_mark(body: &[u8]) -> bool
 }
 
 // Whether a text is a clef, a key signature, a meter or a mensuration sign.
+#[tactic(auto, using(crate::proofs::Exits::starts, slices::proofs::CompareLaws::starts_begins, crate::proofs::MarkLaws::attributes))]
 fn is_attribute(body: &[u8]) -> bool
     ensures { result ≡ is_attribute body.now }
 {
@@ -88,6 +90,7 @@ fn is_attribute(body: &[u8]) -> bool
 }
 
 // What the text behind the star says where nothing stands against it.
+#[tactic(auto, using(crate::proofs::Exits::strips, crate::proofs::MarkLaws::meanings))]
 fn meaning(body: &[u8]) -> Result<Interpretation, Unsupported>
     ensures { result ≡ meaning_of body.now }
 {
@@ -107,6 +110,7 @@ fn meaning(body: &[u8]) -> Result<Interpretation, Unsupported>
 }
 
 // What a text says that is no attribute: a tempo, a name, a key designation.
+#[tactic(auto, using(crate::proofs::Exits::strips, crate::proofs::Exits::starts, crate::proofs::MarkLaws::others))]
 fn other(body: &[u8]) -> Result<Interpretation, Unsupported>
     ensures { result ≡ other_of body.now }
 {
@@ -123,6 +127,7 @@ fn other(body: &[u8]) -> Result<Interpretation, Unsupported>
 }
 
 // What a token says, its star included; `noted` says whether its part has a note in the bar.
+#[tactic(auto, using(crate::proofs::MarkLaws::says_nothing, crate::proofs::MarkLaws::says_late))]
 pub fn interpret(token: &[u8], noted: bool) -> Result<Interpretation, Unsupported>
     ensures { result ≡ interpretation_of token.now noted }
 {

@@ -21,6 +21,7 @@ impl From<Symbol> for u8 {
 }
 
 // The number that a text writes, where Rust reads it as a u8: one digit or more, 255 at most.
+#[tactic(auto, using(crate::proofs::MeterLaws::bytes))]
 fn byte_number(s: &[u8]) -> Option<u8>
     ensures { result ≡ byte_number s.now }
 {
@@ -32,6 +33,7 @@ fn byte_number(s: &[u8]) -> Option<u8>
 }
 
 // A text without the plus that Rust lets stand before a number.
+#[tactic(auto, using(crate::proofs::MeterLaws::plus_cut))]
 fn without_plus(s: &[u8]) -> &[u8]
     ensures { result.now ≡ without_plus s.now }
 {
@@ -39,6 +41,7 @@ fn without_plus(s: &[u8]) -> &[u8]
 }
 
 // The meter of the texts before and behind the first `/`.
+#[tactic(auto, using(crate::proofs::Exits::exits, crate::proofs::MeterLaws::meters))]
 fn meter_from(before: &[u8], behind: &[u8]) -> Result<Interpretation, Unsupported>
     ensures { result ≡ meter_from (byte_number before.now) (byte_number behind.now) }
 {
@@ -65,7 +68,7 @@ pub fn meter_of(s: &[u8]) -> Result<Interpretation, Unsupported>
 }
 
 // The sign that the text behind `met(` gives.
-#[tactic(auto, using(crate::proofs::WordLaws::other_symbol), unfolding(crate::specs::Meter::symbols))]
+#[tactic(auto, using(crate::proofs::WordLaws::other_symbol, crate::proofs::WordLaws::is_symbol), unfolding(crate::specs::Meter::symbols, crate::specs::Meter::symbol_of, crate::specs::Words::named, slices::specs::Compare::same_bytes))]
 pub fn symbol_of(s: &[u8]) -> Result<Interpretation, Unsupported>
     ensures { result ≡ symbol_of s.now }
 {

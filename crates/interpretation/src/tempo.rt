@@ -17,6 +17,7 @@ fn round(n: u64, unit: u64) -> Result<Interpretation, Unsupported>
 }
 
 // The tempo of the digits before and behind the point.
+#[tactic(auto, using(crate::proofs::Exits::left, crate::proofs::TempoLaws::tempos))]
 fn tempo_from(whole: &[u8], fraction: &[u8]) -> Result<Interpretation, Unsupported>
     ensures { result ≡ tempo_from whole.now fraction.now }
 {

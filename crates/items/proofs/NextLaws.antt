@@ -8,7 +8,7 @@ use mathlib.Core.Bool.{Bool, true, false, and-false}
 use lib.Dec.{leb, eqb}
 use lib.ListN.{length, take, drop, get_or, length-drop}
 use lib.Seq.{drop-cons, get_or-drop, get_or-take, length-take-le}
-use borrow.Author.Tests.{lt-leb, eq-eqb, ne_eqb, eqb-true, eqb-false}
+use borrow.Author.Tests.{lt-leb, eq-eqb, eqb-true, eqb-false}
 use Rattle.pitch.specs.Pitch.{within}
 use Rattle.pitch.proofs.Letters.{within_low}
 use Rattle.duration.specs.Duration.{duration_of}
@@ -115,3 +115,6 @@ module _ (s : List ℕ) (i : ℕ) (h : i < length s) where
     next_mark y =
         let t = start_is single in
         next_is s i single (ap Mark (sym t) ∙ item_mark (take (i + 1 - i) (drop i s)) (λ z. omega (arith, some single)) (rw t q) n (rw t r) m (rw t y))
+
+-- the ways out of `next_item`
+pub ruleset next_items = (end_on, next_digits, next_letters, next_blank, next_mark)

@@ -83,10 +83,6 @@ run_start {s} {from} h =
       same = ap (λ (l : List ℕ). from + first l) (drop-cons s from 0 h) ∙ rw (b, add-one from) (omega arith);
     }
 
-pub run_none : (s : List ℕ) (from : ℕ) → length s ≤ from → from ≡ from + first (drop from s)
-unfolding first
-run_none s from h = let z : first (drop from s) ≡ 0 = ap first (drop_of_length-le s h) in omega arith
-
 module _ {s : List ℕ} {from e : ℕ} (inv : Run s from e) where
   at_index : e < length s
       → more (get_or s (e - 1) 0) (drop e s) ≡ cond (joins (get_or s (e - 1) 0) (get_or s e 0)) (suc (more (get_or s e 0) (drop (e + 1) s))) zero

@@ -75,6 +75,7 @@ pub fn letter_end(token: &[u8], from: usize) -> usize
 }
 
 // The item that begins at an index.
+#[tactic(auto, using(crate::proofs::RunLaws::next_none, crate::proofs::NextLaws::next_items))]
 pub fn next_item(token: &[u8], from: usize) -> Next
     ensures { result ≡ next_item token.now from }
 {

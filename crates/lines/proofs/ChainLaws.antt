@@ -1,5 +1,5 @@
 -- The tokens of a line as the library's `split` gives them, for chains over them.
-use mathlib.Core.Path.{◌≡◌, refl, ap, ◌∙◌, subst, sym}
+use mathlib.Core.Path.{◌≡◌, refl, ap, ◌∙◌, subst}
 use Prim.Native.Nat.{ℕ}
 use mathlib.Core.List.{List, [], ◌∷◌}
 use mathlib.Core.Bool.{Bool, true, false, cond}

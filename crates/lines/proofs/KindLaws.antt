@@ -69,3 +69,6 @@ module _ (s : List ℕ) (some : length s ≡ 0 → ⊥) where
 
       pub kind_bangs : get_or s 1 0 ≡ 33 → get_or s 2 0 ≡ 33 → Reference ≡ kind_of s
       kind_bangs e h = kind_reference (three s long ∙ rw (bang, e, h))
+
+-- each kind of a line, for `line_kind`
+pub ruleset kinds = (kind_empty, kind_bangs, kind_bar, kind_star, kind_short, kind_third, kind_second, kind_data)

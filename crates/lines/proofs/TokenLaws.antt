@@ -35,3 +35,6 @@ pub empty_is : (s : List ℕ) → eqb (length s) 0 ≡ is_empty s
 unfolding is_empty same_bytes
 empty_is [] = refl
 empty_is (x ∷ s) = ne_eqb (suc (length s)) 0 (λ e. omega arith)
+
+-- each way to tell whether a token is `.`, for `is_null`
+pub ruleset nulls = (null_here, null_short, null_other, null_long)

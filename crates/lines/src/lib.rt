@@ -27,6 +27,7 @@ pub fn content(line: &[u8]) -> usize
 }
 
 // The index of the next LF from `from` on, or the length. Lines begun by `!` are long, and searched by blocks from the start.
+#[tactic(auto, using(crate::proofs::PieceLaws::end_past))]
 pub fn line_end(text: &[u8], from: usize) -> usize
     ensures { result ≡ piece_end 10 text.now from }
 {
@@ -38,6 +39,7 @@ pub fn line_end(text: &[u8], from: usize) -> usize
 }
 
 // The index of the next TAB from `from` on, or the length.
+#[tactic(auto, using(crate::proofs::PieceLaws::end_past))]
 pub fn token_end(line: &[u8], from: usize) -> usize
     ensures { result ≡ piece_end 9 line.now from }
 {
@@ -55,6 +57,7 @@ pub fn token_count(line: &[u8]) -> usize
 }
 
 // What a line without trailing CRs is.
+#[tactic(auto, using(crate::proofs::KindLaws::kinds))]
 pub fn line_kind(line: &[u8]) -> Kind
     ensures { result ≡ kind_of line.now }
 {
@@ -69,6 +72,7 @@ pub fn line_kind(line: &[u8]) -> Kind
 }
 
 // Whether a token is `.`.
+#[tactic(auto, using(crate::proofs::TokenLaws::nulls))]
 pub fn is_null(token: &[u8]) -> bool
     ensures { result ≡ is_null token.now }
 {
@@ -76,6 +80,7 @@ pub fn is_null(token: &[u8]) -> bool
 }
 
 // Whether a token is `**kern`.
+#[tactic(auto, unfolding(crate::specs::Tokens::is_kern))]
 pub fn is_kern(token: &[u8]) -> bool
     ensures { result ≡ is_kern token.now }
 {
@@ -97,6 +102,7 @@ pub fn is_star(token: &[u8]) -> bool
 }
 
 // Whether a token has no byte.
+#[tactic(auto, using(crate::proofs::TokenLaws::empty_is))]
 pub fn is_empty(token: &[u8]) -> bool
     ensures { result ≡ is_empty token.now }
 {

@@ -32,6 +32,7 @@ fn digit(n: u16) -> u8
 
 impl SpineName {
     // The parts are numbered from 0, their names from 1.
+    #[tactic(auto, using(std::proofs::lemmas::Bool::Decides::nat_tests), unfolding(crate::specs::Names::decimal, crate::specs::Names::spine_name))]
     pub fn new(part: u8) -> SpineName
         ensures { result ≡ spine_name part }
     {

@@ -1,5 +1,5 @@
 -- What the searches of a token by std's methods find is what the definitions say.
-use mathlib.Core.Path.{◌≡◌, refl, ap}
+use mathlib.Core.Path.{◌≡◌, refl, sym, ap}
 use Prim.Native.Nat.{ℕ}
 use mathlib.Core.List.{List, [], ◌∷◌}
 use mathlib.Core.Bool.{Bool, true, false, cond, ◌&&◌, ◌||◌}
@@ -14,6 +14,10 @@ pub any_contains : (b : ℕ) (s : List ℕ) → list_any (λ x. eqb x b) s ≡ c
 unfolding contains
 any_contains b [] = refl
 any_contains b (x ∷ s) = ap (λ t. eqb x b || t) (any_contains b s)
+
+-- the same the other way round, as `using` takes it
+pub found_contains : (b : ℕ) (s : List ℕ) → contains b s ≡ list_any (λ x. eqb x b) s
+found_contains b s = sym (any_contains b s)
 
 -- a pair of bytes: the list, and the list from its second byte on
 pub any_pair : (a b : ℕ) (s : List ℕ) → list_any (λ p. eqb p.0 a && eqb p.1 b) (zip s (drop 1 s)) ≡ contains_pair a b s

@@ -38,6 +38,7 @@ impl From<Barline> for u8 {
 }
 
 // The barline that closes the bar, by the token and its body, the token without its leading `=`.
+#[tactic(auto, using(crate::proofs::ByteLaws::found_contains), unfolding(crate::specs::Barline::right_of))]
 fn right_barline(token: &[u8], body: &[u8]) -> Barline
     ensures { result ≡ right_of token.now body.now }
 {
@@ -55,6 +56,7 @@ fn right_barline(token: &[u8], body: &[u8]) -> Barline
 }
 
 // The barline that the next bar begins with, by the token's body.
+#[tactic(auto, unfolding(crate::specs::Barline::left_of))]
 fn left_barline(body: &[u8]) -> Barline
     ensures { result ≡ left_of body.now }
 {
@@ -66,6 +68,7 @@ fn left_barline(body: &[u8]) -> Barline
 }
 
 // The barlines of a token.
+#[tactic(auto, unfolding(crate::specs::Barline::barlines_of))]
 pub fn kern_barline(token: &[u8]) -> Barlines
     ensures { result ≡ barlines_of token.now }
 {

@@ -63,6 +63,7 @@ impl From<Mark> for u8 {
 }
 
 // Whether L and J stand anywhere in the token.
+#[tactic(auto, using(crate::proofs::ByteLaws::found_contains))]
 pub fn beam_letters(token: &[u8]) -> Letters
     ensures { result ≡ letters_of token.now }
 {

@@ -16,6 +16,7 @@ pub struct Text<'a> {
 
 impl<'a> Text<'a> {
     // The bytes from one index to another, without the CRs at their end.
+    #[tactic(auto, using(lines::proofs::TrimLaws::content_take))]
     pub fn content(self, from: usize, end: usize) -> &'a [u8]
         requires { (from ≤ end) × (end ≤ length self.bytes.now) }
         ensures { result.now ≡ without_crs (take (end - from) (drop from self.entry.bytes.now)) }

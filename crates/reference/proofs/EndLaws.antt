@@ -138,3 +138,6 @@ module _ {s : List ℕ} {n : ℕ} (inv : Ending s n) (h : 0 < n) where
 
   pub ending_cut : {r : ℕ} → (r ≡ trimmed_end (take (n - 1 + 1) s)) × (r ≤ length (take (n - 1 + 1) s)) → (r ≡ trimmed_end s) × (r ≤ length s)
   ending_cut q = let z : n - 1 + 1 ≡ n = omega (arith, h) in ending_rest inv (rw z at q)
+
+-- how the loop of `trimmed_end` goes
+pub ruleset endings = (ending_first, ending_here, ending_cut, ending_turn, ending_past)

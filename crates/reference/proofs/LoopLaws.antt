@@ -29,18 +29,8 @@ pub record End (s : List ℕ) (end i : ℕ) : Type 0 where
   pub high : i ≤ length s
   pub same : trimmed_end s ≡ cond (eqb (trimmed_end (drop i s)) 0) end (i + trimmed_end (drop i s))
 
-pub leading_start : {s : List ℕ} → Leading s 0
-leading_start = record { high = omega arith; same = omega arith }
-
 pub leading_past : {s : List ℕ} {i : ℕ} → Leading s i → length s ≤ i → (i ≡ leading_white s) × (i ≤ length s)
 leading_past {s} {i} inv h = (omega (arith, inv.same, leading_none (drop i s) (omega (arith, length-drop i s))), inv.high)
-
-pub end_start : {s : List ℕ} → End s 0 0
-end_start {s} = record { low = omega arith; high = omega arith; same = go (trimmed_end s) }
-  where
-    go : (e : ℕ) → e ≡ cond (eqb e 0) 0 (0 + e)
-    go zero = refl
-    go (suc e) = rw (eqb-suc-zero e) (omega arith)
 
 pub end_past : {s : List ℕ} {end i : ℕ} → End s end i → length s ≤ i → (end ≡ trimmed_end s) × (end ≤ length s)
 end_past {s} {end} {i} inv h =
@@ -132,3 +122,9 @@ module _ {s : List ℕ} {i : ℕ} (h : i < length s) (high : get_or s i 0 < 128)
 
   pub space_turn : white (get_or s i 0) ≡ true → Leading s i → Leading s (i + 1)
   space_turn w inv = leading_turn (ascii_at true w) inv refl
+
+-- how the loop of `leading_white` goes
+pub ruleset leading = (ink_stop, space_turn, leading_done, leading_turn, leading_past)
+
+-- how the loop of `last_end` goes
+pub ruleset last_ends = (ink_turn, end_turn, end_turn_white, end_past)

@@ -30,7 +30,7 @@ pub struct Reference {
 }
 
 // Whether a code point is white space.
-#[tactic(auto, using(crate::proofs::WhiteLaws::white_key, crate::proofs::WhiteLaws::white_run, crate::proofs::WhiteLaws::white_not))]
+#[tactic(auto, using(crate::proofs::WhiteLaws::white_key, crate::proofs::WhiteLaws::white_run, crate::proofs::WhiteLaws::white_not), unfolding(crate::specs::Trim::white))]
 pub fn white(c: u32) -> bool
     ensures { result ≡ white c }
 {
@@ -38,6 +38,7 @@ pub fn white(c: u32) -> bool
 }
 
 // The bytes of the character at the front of s; a byte at which none stands counts as one.
+#[tactic(auto, using(crate::proofs::CharacterLaws::width_max))]
 fn width(s: &[u8]) -> usize
     ensures { result ≡ width s.now }
 {
@@ -52,6 +53,7 @@ struct Turn {
 }
 
 // The character at i.
+#[tactic(auto, using(crate::proofs::LoopLaws::width_fits))]
 fn character(s: &[u8], i: usize) -> Turn
     requires { i < length s.now }
     ensures { At s.now i result.next result.blank }
@@ -70,6 +72,7 @@ fn ink(b: u8) -> bool
 }
 
 // Whether a byte is a white ASCII character.
+#[tactic(auto, using(crate::proofs::WhiteLaws::white_blank, crate::proofs::WhiteLaws::white_space))]
 fn space(b: u8) -> bool
     ensures { result ≡ true → (white b ≡ true) × (b < 128) }
 {
@@ -77,6 +80,7 @@ fn space(b: u8) -> bool
 }
 
 // How many bytes the white characters at the front of s have.
+#[tactic(auto, using(std::proofs::lemmas::Bool::Decides::nat_tests, crate::proofs::LoopLaws::leading))]
 pub fn leading_white(s: &[u8]) -> usize
     ensures { (result ≡ leading_white s.now) × (result ≤ length s.now) }
 {
@@ -102,6 +106,7 @@ pub fn leading_white(s: &[u8]) -> usize
 
 // Where s ends without the white characters at its end, character by character from the front. A call: few texts come here.
 #[inline(never)]
+#[tactic(auto, using(std::proofs::lemmas::Bool::Decides::nat_tests, crate::proofs::LoopLaws::last_ends))]
 fn last_end(s: &[u8]) -> usize
     ensures { (result ≡ trimmed_end s.now) × (result ≤ length s.now) }
 {
@@ -124,6 +129,7 @@ fn last_end(s: &[u8]) -> usize
 }
 
 // Where s ends without the white characters at its end; from the end, as long as they are ASCII.
+#[tactic(auto, using(crate::proofs::EndLaws::endings))]
 pub fn trimmed_end(s: &[u8]) -> usize
     ensures { (result ≡ trimmed_end s.now) × (result ≤ length s.now) }
 {
@@ -140,6 +146,7 @@ pub fn trimmed_end(s: &[u8]) -> usize
 }
 
 // The piece of s from `from` to `to`, without the white space at its ends.
+#[tactic(auto, using(crate::proofs::SpanLaws::span_none, crate::proofs::SpanLaws::span_some))]
 fn trim(s: &[u8], from: usize, to: usize) -> Span
     requires { (from ≤ to) × (to ≤ length s.now) }
     ensures { result ≡ span_of from (take (to - from) (drop from s.now)) }
@@ -170,6 +177,7 @@ pub fn key_of(k: &[u8]) -> Key
 }
 
 // The reference record whose bytes behind `!!!` are s.
+#[tactic(auto, using(crate::proofs::ReferenceLaws::key_fits, crate::proofs::ReferenceLaws::reference_is))]
 pub fn reference_of(s: &[u8]) -> Reference
     ensures { result ≡ reference_of s.now }
 {

@@ -49,9 +49,6 @@ module _ (b n : ℕ) (s : List ℕ) {i : ℕ} (low : n ≤ length s) (e : (i ≡
   pub far_late : {r : ℕ} → n ≤ i → (r ≡ n + index_of b (drop n s)) × (r ≤ length s) → (r ≡ index_of b s) × (r ≤ length s)
   far_late h q = (q.0 ∙ sym (index_front b n s low (omega (arith, e, length-take-le n s low))), q.1)
 
-pub without_first : {b : ℕ} {s : List ℕ} {from : ℕ} → from ≤ length s → Without b s from from
-without_first h = record { low = omega arith; high = h; same = omega arith }
-
 -- a block of n bytes more
 pub without_block : {b : ℕ} {s : List ℕ} {from i : ℕ} → Without b s from i → (n : ℕ) → i + n ≤ length s → index_of b (take n (drop i s)) ≡ n → Without b s from (i + n)
 without_block {b} {s} {from} {i} inv n h e =

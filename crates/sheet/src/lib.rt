@@ -97,6 +97,7 @@ pub struct Notice {
 }
 
 // The span of len bytes at an offset; an empty one is 0, 0.
+#[tactic(auto, using(std::proofs::lemmas::Bool::Decides::nat_tests), unfolding(crate::specs::Record::span_of))]
 pub fn span_of(at: u32, len: u32) -> Span
     ensures { result ≡ span_of at len }
 {
@@ -158,6 +159,7 @@ impl Fixed<16> for Head {
 
     ghost long = { λ x. unfold head_bytes in refl };
 
+    #[tactic(auto, unfolding(crate::specs::Record::head_bytes))]
     fn to_bytes(self) -> [u8; 16] {
         let mut bytes = [0; 16];
         bytes[..4].copy_from_slice(b"KRN\0");
@@ -177,6 +179,7 @@ impl Fixed<28> for Note {
 
     ghost long = { λ x. unfold note_bytes in refl };
 
+    #[tactic(auto, unfolding(crate::specs::Record::note_bytes))]
     fn to_bytes(self) -> [u8; 28] {
         let mut bytes = [0; 28];
         bytes[0] = 1;
@@ -205,6 +208,7 @@ impl Fixed<3> for Pitch {
 
     ghost long = { λ x. unfold pitch_bytes in refl };
 
+    #[tactic(auto, unfolding(crate::specs::Record::pitch_bytes))]
     fn to_bytes(self) -> [u8; 3] {
         [self.step, self.octave, self.alter]
     }
@@ -218,6 +222,7 @@ impl Fixed<20> for Bar {
 
     ghost long = { λ x. unfold bar_bytes in refl };
 
+    #[tactic(auto, unfolding(crate::specs::Record::bar_bytes))]
     fn to_bytes(self) -> [u8; 20] {
         let mut bytes = [0; 20];
         bytes[0] = 2;
@@ -251,6 +256,7 @@ impl Fixed<20> for Part {
 
     ghost long = { λ x. unfold part_bytes in refl };
 
+    #[tactic(auto, unfolding(crate::specs::Record::part_bytes))]
     fn to_bytes(self) -> [u8; 20] {
         let mut bytes = [0; 20];
         bytes[0] = 3;
@@ -277,6 +283,7 @@ impl Fixed<32> for End {
 
     ghost long = { λ x. unfold end_bytes in refl };
 
+    #[tactic(auto, unfolding(crate::specs::Record::end_bytes))]
     fn to_bytes(self) -> [u8; 32] {
         let mut bytes = [0; 32];
         bytes[0] = 4;
@@ -306,6 +313,7 @@ impl Fixed<24> for Notice {
 
     ghost long = { λ x. unfold notice_bytes in refl };
 
+    #[tactic(auto, unfolding(crate::specs::Record::notice_bytes))]
     fn to_bytes(self) -> [u8; 24] {
         let mut bytes = [0; 24];
         bytes[0] = 5;

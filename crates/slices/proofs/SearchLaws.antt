@@ -35,3 +35,6 @@ module _ (b : ℕ) (s : List ℕ) (i : ℕ) where
 
   pub search_end : length s ≤ i → index_of b (drop i s) ≡ 0
   search_end h = ap (index_of b) (drop_of_length-le s h) ∙ index_none b
+
+-- how the loop of `find` goes
+pub ruleset searching = (search_on, search_here, search_end)

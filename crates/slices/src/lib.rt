@@ -7,6 +7,7 @@ ghost use Rattle.slices.specs.Compare.{same_bytes, begins_with};
 ghost use Rattle.slices.specs.Store.{stored};
 
 // The index of the first b, or the length where there is none.
+#[tactic(auto, using(crate::proofs::SearchLaws::searching))]
 pub fn find(s: &[u8], b: u8) -> usize
     ensures { (result ≡ index_of b s.now) × (result ≤ length s.now) }
 {
@@ -28,6 +29,7 @@ pub fn piece(s: &[u8], at: usize, len: usize) -> &[u8]
 }
 
 // Whether s begins with p.
+#[tactic(auto, using(crate::proofs::CompareLaws::starts_begins))]
 pub fn begins(s: &[u8], p: &[u8]) -> bool
     ensures { result ≡ begins_with p.now s.now }
 {
@@ -35,6 +37,7 @@ pub fn begins(s: &[u8], p: &[u8]) -> bool
 }
 
 // Whether s is exactly p.
+#[tactic(auto, using(crate::proofs::CompareLaws::eq_same))]
 pub fn same(s: &[u8], p: &[u8]) -> bool
     ensures { result ≡ same_bytes p.now s.now }
 {
@@ -42,6 +45,7 @@ pub fn same(s: &[u8], p: &[u8]) -> bool
 }
 
 // `bytes` at the start of out and its old bytes behind; out is unchanged where they don't fit.
+#[tactic(auto, using(crate::proofs::StoreLaws::stored_front, crate::proofs::StoreLaws::stored_not))]
 pub fn put(out: &mut [u8], bytes: &[u8])
     ensures { out.new ≡ stored out.old bytes.now }
 {

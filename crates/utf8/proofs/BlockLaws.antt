@@ -100,3 +100,6 @@ module _ {s : List ℕ} {i : ℕ} (inv : Passed s 0 i) where
 
   pub length_past : length s ≤ i → (i ≡ utf8_length s) × (i ≤ length s)
   length_past h = length_done (ap utf8_length (drop_of_length-le s h) ∙ length_end)
+
+-- how the loop of `utf8_length` goes
+pub ruleset lengths = (blocks_first, length_done, blocks_on, length_past)

@@ -8,6 +8,7 @@ use lib.ListN.{length, take, get_or}
 use lib.Seq.{take-take}
 use Rattle.utf8.specs.Utf8.{char_length, bits, code_point}
 use Rattle.utf8.proofs.LengthLaws.{char_inside, char_take, char_whole}
+use Rattle.utf8.proofs.TableLaws.{char_most}
 
 pub point_none : (s : List ℕ) → char_length s ≡ 0 → code_point s ≡ 0
 unfolding code_point bits
@@ -56,6 +57,9 @@ module _ (s : List ℕ) where
 
   pub point_4 : char_length s ≡ 4 → code_point s ≡ ((get_or s 0 0 % 8 * 64 + get_or s 1 0 % 64) * 64 + get_or s 2 0 % 64) * 64 + get_or s 3 0 % 64
   point_4 e = point 4 e ∙ bits_4 s (omega (arith, char_inside s))
+
+-- the code point by the character's length, which its text has and which is at most 4
+pub ruleset points = (char_inside, char_most, point_none, point_1, point_2, point_3, point_4)
 
 -- a character alone has the same code point, and a byte at which none stands has none
 pub point_whole : (s : List ℕ) (n : ℕ) → char_length s ≡ n → 0 < n → code_point (take n s) ≡ code_point s

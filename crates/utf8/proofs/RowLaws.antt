@@ -89,3 +89,6 @@ module _ (s : List ℕ) (some : length s ≡ 0 → ⊥) where
       go false e =
           let above : 0xEC < get_or s 0 0 = leb-false (get_or s 0 0) 0xEC e in
           leads (row 5 (omega arith)) (omega arith) high
+
+-- the ways out of `between`
+pub ruleset ranges = (upto, under, past)

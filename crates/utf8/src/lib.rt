@@ -5,6 +5,7 @@ ghost use Rattle.std.specs.Prelude.{◌≡◌, true, cond, ◌∷◌, ℕ, ◌+�
 ghost use Rattle.utf8.specs.Utf8.{tails, begins, char_length, utf8_length, Passed, code_point};
 
 // Whether the byte at i lies in lo..=hi.
+#[tactic(auto, using(std::proofs::lemmas::Bool::Decides::nat_tests, crate::proofs::RowLaws::ranges))]
 fn between(s: &[u8], i: usize, lo: u8, hi: u8) -> bool
     ensures { result ≡ begins ((lo, hi) ∷ tails 0) (drop i s.now) }
 {
@@ -31,6 +32,7 @@ fn rest(s: &[u8], lo: u8, hi: u8, n: usize) -> usize
 }
 
 // The length of the character at the front of s, 0 where none stands there.
+#[tactic(auto, using(crate::proofs::RowLaws::leads_three, crate::proofs::LengthLaws::char_empty, crate::proofs::RowLaws::leads_none), unfolding(crate::specs::Utf8::table))]
 pub fn char_length(s: &[u8]) -> usize
     ensures { result ≡ char_length s.now }
 {
@@ -56,6 +58,7 @@ fn behind(high: u32, s: &[u8], i: usize) -> u32
 }
 
 // The code point of the character at the front of s, 0 where none stands there.
+#[tactic(auto, using(crate::proofs::PointLaws::points))]
 pub fn code_point(s: &[u8]) -> u32
     ensures { result ≡ code_point s.now }
 {
@@ -69,6 +72,7 @@ pub fn code_point(s: &[u8]) -> u32
 }
 
 // The N bytes from i on, joined bit by bit.
+#[tactic(auto, using(crate::proofs::BlockLaws::run_turn))]
 fn joined<const N: usize>(s: &[u8], i: usize) -> u8
     requires { i + N ≤ length s.now }
     ensures { result < 128 → (k : ℕ) → k < N → get_or s.now (i + k) 0 < 128 }
@@ -81,6 +85,7 @@ fn joined<const N: usize>(s: &[u8], i: usize) -> u8
 }
 
 // Where the blocks of 64 bytes below 128 from `from` on end.
+#[tactic(auto, using(crate::proofs::BlockLaws::blocks_first))]
 fn blocks_64(s: &[u8], from: usize) -> usize
     requires { from ≤ length s.now }
     ensures { Passed s.now from result }
@@ -98,6 +103,7 @@ fn blocks_64(s: &[u8], from: usize) -> usize
 
 // Whether a character of N bytes, led by lo..=hi, stands at i.
 // Stays: no plainer: no type bounds a const parameter, so `0 < N` is asked.
+#[tactic(auto, using(crate::proofs::RowLaws::begins_split))]
 fn row<const N: usize>(s: &[u8], lo: u8, hi: u8, i: usize) -> bool
     requires { (0 < N) × (N ≤ 4) × (i ≤ length s.now) }
     ensures { result ≡ begins ((lo, hi) ∷ tails (N - 1)) (drop i s.now) }
@@ -106,6 +112,7 @@ fn row<const N: usize>(s: &[u8], lo: u8, hi: u8, i: usize) -> bool
 }
 
 // Where the characters of N bytes, led by lo..=hi, from `from` on end.
+#[tactic(auto, using(crate::proofs::BlockLaws::blocks_first, crate::proofs::BlockLaws::blocks_on))]
 fn rows<const N: usize>(s: &[u8], lo: u8, hi: u8, from: usize) -> usize
     requires short { (0 < N) × (N ≤ 4) × (from ≤ length s.now) }
     requires listed { (i : ℕ) → begins ((lo, hi) ∷ tails (N - 1)) (drop i s.now) ≡ true → Passed s.now i (i + N) }
@@ -120,6 +127,7 @@ fn rows<const N: usize>(s: &[u8], lo: u8, hi: u8, from: usize) -> usize
 }
 
 // Where the character at i, or a run that begins with it, ends; i where none stands there.
+#[tactic(auto, using(crate::proofs::BlockLaws::onward_run))]
 fn onward(s: &[u8], i: usize) -> usize
     requires { i < length s.now }
     ensures { Passed s.now i result × (result ≡ i → utf8_length (drop i s.now) ≡ 0) }
@@ -149,6 +157,7 @@ fn onward(s: &[u8], i: usize) -> usize
 }
 
 // The length of the longest well-formed part of s from its start.
+#[tactic(auto, using(crate::proofs::BlockLaws::lengths))]
 pub fn utf8_length(s: &[u8]) -> usize
     ensures { (result ≡ utf8_length s.now) × (result ≤ length s.now) }
 {

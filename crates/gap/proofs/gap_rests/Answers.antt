@@ -2,8 +2,7 @@
 use Rattle.std.proofs.Common.{rules}
 use Rattle.std.specs.Prelude.{Err}
 use mathlib.Core.Path.{◌≡◌, sym, subst, ◌∙◌}
-use native.Mathlib.Omega.{arith}
-use Rattle.gap.proofs.AnswerLaws.{Answers, turned_away, few_bytes, too_short, can_fill, is_filled}
+use Rattle.gap.proofs.AnswerLaws.{Answers, turned_away, too_short, is_filled}
 use Rattle.gap.proofs.gap_rests.Goals as goal
 
 pub returns-in_err-long : goal.returns-in_err-long
@@ -13,19 +12,10 @@ returns-in_err-long c =
     let all = subst (Answers c.args.ticks c.args.divisions c.args.notes c.args.out.now c.args.out.now) (sym is) a in
     record { answer = all.answer; buffer = all.buffer; numbered = all.numbered; filled = all.filled }
 
-pub overflow_mul-long : goal.overflow_mul-long
-overflow_mul-long c =
-    let few = few_bytes c.args.ticks c.args.divisions c.args.notes c.args.out.now c.saturating_sub.ensures (sym c.in_ok-long.was ∙ c.count_rests.ensures) in
-    record { fits = omega (arith, few) }
-
 pub returns-then-out-long : goal.returns-then-out-long
 returns-then-out-long c =
     let all = too_short c.args.ticks c.args.divisions c.args.notes c.args.out.now c.saturating_sub.ensures (sym c.in_ok-long.was ∙ c.count_rests.ensures) c.if-out-long.true in
     record { answer = all.answer; buffer = all.buffer; numbered = all.numbered; filled = all.filled }
-
-pub write_rests-requires : goal.write_rests-requires
-write_rests-requires c =
-    can_fill c.args.ticks c.args.divisions c.args.notes c.args.out.now c.saturating_sub.ensures (sym c.in_ok-long.was ∙ c.count_rests.ensures) c.if-out-long.false
 
 pub returns : goal.returns
 returns c =

@@ -1,14 +1,8 @@
 -- A star alone, an attribute after a note, or what the text behind the star says.
 use borrow.Author.Rules.{rules}
-use Rattle.interpretation.proofs.MarkLaws.{says_nothing, says_late, says_first, says_after}
+use Rattle.interpretation.proofs.MarkLaws.{says_first, says_after}
 use Rattle.interpretation.proofs.interpret.Goals as goal
 use Rattle.interpretation.proofs.interpret.Goals.{else-noted-via-then-noted+else-is_attribute, else-noted-via-else-noted}
-
-pub returns-then-is_empty : goal.returns-then-is_empty
-returns-then-is_empty c = says_nothing _ _ c.tail-body.ensures (search rules)
-
-pub returns-then-is_attribute : goal.returns-then-is_attribute
-returns-then-is_attribute c = says_late _ _ c.tail-body.ensures (search rules) c.if-noted.true c.is_attribute.ensures c.if-is_attribute.true
 
 pub returns : goal.returns
 returns c =

@@ -1,5 +1,4 @@
 -- The bytes up to the end are digits of one run.
-use native.Mathlib.Omega.{arith}
 use borrow.Author.Rules.{rules}
 use Rattle.items.proofs.NextLaws.{digits_run}
 use Rattle.items.proofs.digits_end.Goals as goal

@@ -1,6 +1,5 @@
 -- The bytes up to the end are the letter of one run.
 use mathlib.Core.Path.{refl}
-use native.Mathlib.Omega.{arith}
 use borrow.Author.Rules.{rules}
 use lib.ListN.{get_or}
 use Rattle.items.proofs.NextLaws.{letter_run}

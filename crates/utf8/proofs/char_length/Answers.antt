@@ -2,8 +2,7 @@
 use mathlib.Core.Path.{sym, ◌∙◌}
 use native.Mathlib.Omega.{arith}
 use Rattle.utf8.specs.Utf8.{table, begins}
-use Rattle.utf8.proofs.LengthLaws.{char_empty}
-use Rattle.utf8.proofs.RowLaws.{row, leads, leads_none, leads_three}
+use Rattle.utf8.proofs.RowLaws.{row, leads}
 use Rattle.utf8.proofs.char_length.Goals as goal
 
 pub returns-in-0-to-127 : goal.returns-in-0-to-127
@@ -33,17 +32,3 @@ returns-in-241-to-243 c = c.rest-in-241-to-243.ensures ∙ sym (leads _ (λ e. o
 pub returns-in-244 : goal.returns-in-244
 unfolding table
 returns-in-244 c = c.rest-in-244.ensures ∙ sym (leads _ (λ e. omega arith) (row 8 (omega arith)) (omega arith) (omega arith))
-
-pub returns-in-225-to-239 : goal.returns-in-225-to-239
-returns-in-225-to-239 c = c.rest-in-225-to-239.ensures ∙ sym (leads_three _ (λ e. omega arith) (omega arith) (omega arith) (λ e. omega arith))
-
-pub returns-in_default : goal.returns-in_default
-returns-in_default c = sym (char_empty _ (omega arith))
-
-pub returns-in_default-2 : goal.returns-in_default-2
-unfolding table
-returns-in_default-2 c = sym (leads_none _ (λ e. omega arith) (omega arith))
-
-pub returns-in_default-3 : goal.returns-in_default-3
-unfolding table
-returns-in_default-3 c = sym (leads_none _ (λ e. omega arith) (omega arith))

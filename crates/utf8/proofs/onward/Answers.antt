@@ -21,14 +21,8 @@ returns-then-s-i-lt128 c = onward_run (blocks_on (blocks_turn (blocks_first (ome
 pub rows-twos-requires-clause-listed : goal.rows-twos-requires-clause-listed
 rows-twos-requires-clause-listed c = λ i. two_on c.args.s.now i
 
-pub returns-then-i-twos : goal.returns-then-i-twos
-returns-then-i-twos c = onward_run c.rows-twos.ensures c.if-i-twos.true
-
 pub rows-threes-requires-clause-listed : goal.rows-threes-requires-clause-listed
 rows-threes-requires-clause-listed c = λ i. three_on c.args.s.now i
-
-pub returns-then-i-threes : goal.returns-then-i-threes
-returns-then-i-threes c = onward_run c.rows-threes.ensures c.if-i-threes.true
 
 pub overflow_add-result-2 : goal.overflow_add-result-2
 overflow_add-result-2 c = omega (arith, (onward_char c.args.s.now c.args.i (omega arith) c.char_length-2.ensures).0.high)

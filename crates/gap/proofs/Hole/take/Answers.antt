@@ -1,18 +1,8 @@
 -- What comes out of a hole is what the definition takes.
 use mathlib.Core.Path.{refl, sym, ◌∙◌}
 use native.Mathlib.Omega.{arith}
-use Rattle.gap.proofs.FillLaws.{hole_done, fill_none, fill_full, fill_more, takes}
+use Rattle.gap.proofs.FillLaws.{fill_more, takes}
 use Rattle.gap.proofs.Hole.take.Goals as goal
-
-pub returns-then-self-eq0 : goal.returns-then-self-eq0
-returns-then-self-eq0 c = hole_done c.args.self.now c.if-self-eq0.true
-
-pub returns-in_default : goal.returns-in_default
-returns-in_default c = let h = c.args.self.now in fill_none h.left.divisions h.left.ticks c.if-self-eq0.false h.room (sym c.next_rest.ensures ∙ c.in_default.is)
-
-pub returns-then-self-eq0-2 : goal.returns-then-self-eq0-2
-returns-then-self-eq0-2 c = let h = c.args.self.now in
-    fill_full h.left.divisions h.left.ticks c.if-self-eq0.false (sym c.next_rest.ensures ∙ c.in-Some.is) h.room c.if-self-eq0-2.true
 
 pub overflow_sub-self-2 : goal.overflow_sub-self-2
 overflow_sub-self-2 c = let h = c.args.self.now in (takes h.left.divisions h.left.ticks c.if-self-eq0.false (sym c.next_rest.ensures ∙ c.in-Some.is)).high

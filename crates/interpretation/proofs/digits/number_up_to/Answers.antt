@@ -1,19 +1,9 @@
 -- The bytes so far are digits, and what is left decides.
 use mathlib.Core.Path.{sym, ◌∙◌}
 use Rattle.interpretation.specs.Digits.{is_digit}
-use Rattle.interpretation.proofs.DigitLaws.{reading_first, reading_turn, reading_not, reading_past}
+use Rattle.interpretation.proofs.DigitLaws.{reading_turn}
 use Rattle.interpretation.proofs.digits.number_up_to.Goals as goal
-
-pub loop-d-init : goal.loop-d-init
-loop-d-init c = reading_first
 
 pub loop-d-preserved : goal.loop-d-preserved
 unfolding is_digit
 loop-d-preserved c = reading_turn c.loop-d.invariant c.loop-d-test.true (sym c.is_ascii_digit.ensures.value ∙ c.if-not-is_ascii_digit.false) cc
-
-pub returns-then-not-is_ascii_digit : goal.returns-then-not-is_ascii_digit
-unfolding is_digit
-returns-then-not-is_ascii_digit c = reading_not c.loop-d.invariant c.loop-d-test.true (sym c.is_ascii_digit.ensures.value ∙ c.if-not-is_ascii_digit.true)
-
-pub returns : goal.returns
-returns c = reading_past c.loop-d.invariant c.loop-d-test.false

@@ -1,9 +1,6 @@
 -- By the tests that led to each answer.
-use Rattle.interpretation.proofs.KeyLaws.{steps_odd, steps_sharp, steps_flat, steps_other}
+use Rattle.interpretation.proofs.KeyLaws.{steps_sharp, steps_flat, steps_other}
 use Rattle.interpretation.proofs.key.signature.Goals as goal
-
-pub returns-then-s-ne0 : goal.returns-then-s-ne0
-returns-then-s-ne0 c = steps_odd _ c.if-s-ne0.true
 
 pub returns-then-starts_with : goal.returns-then-starts_with
 returns-then-starts_with c = steps_sharp _ c.if-s-ne0.false c.starts_with.ensures.value c.if-starts_with.true
