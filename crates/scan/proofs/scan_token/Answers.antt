@@ -1,8 +1,7 @@
 -- Each of the four states, carried on over the items left, gives what it gives over all from the start; the byte at i decides the item there.
-use mathlib.Core.Path.{refl, sym, ◌∙◌}
-use native.Mathlib.Omega.{arith}
-use Rattle.items.proofs.NextLaws.{end_on, next_digits, next_letters, next_blank, next_mark}
-use Rattle.scan.proofs.ScanLaws.{scan_first, scan_turn, scan_past}
+use mathlib.Core.Path.{refl}
+use Rattle.items.proofs.NextLaws.{next_digits, next_letters, next_blank, next_mark}
+use Rattle.scan.proofs.ScanLaws.{scan_turn, scan_past}
 use Rattle.scan.proofs.UnknownLaws.{scan_run}
 use Rattle.scan.proofs.scan_token.Goals as goal
 
@@ -23,4 +22,3 @@ loop-i-preserved c = scan_turn c.loop-i.invariant c.loop-i-test.true (next_mark 
 
 pub returns : goal.returns
 returns c = scan_past c.loop-i.invariant c.loop-i-test.false c.collect.ensures
-
