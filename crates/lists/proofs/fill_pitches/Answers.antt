@@ -1,7 +1,6 @@
 -- What is stored, and what the items left give, are all; a pitch is given where its sub-token ends.
 use mathlib.Core.Path.{refl, ap, ◌∙◌}
 use mathlib.Core.List.{[]}
-use native.Mathlib.Omega.{arith}
 use Rattle.items.specs.declared.Item.TheVariants.{Digits, Letters, Blank, Mark}
 use Rattle.items.proofs.RunLaws.{next_at}
 use Rattle.items.proofs.NextLaws.{next_digits, next_letters, next_blank, next_mark}
