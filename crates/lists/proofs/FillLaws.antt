@@ -58,9 +58,6 @@ pub record Writing (old all out token : List ℕ) (k i : ℕ) (left : List Item 
   pub high : i ≤ length token
   pub fill : Filling old all out k (left (items (drop i token)))
 
-pub write_first : {old all token : List ℕ} (left : List Item → List ℕ) → left (items token) ≡ all → length all ≤ length old → Writing old all old token 0 0 left
-write_first {old} {all} left e h = record { high = omega arith; fill = fill_as (sym e) (fill_first h) }
-
 module _ {old all out token : List ℕ} {k i : ℕ} {left : List Item → List ℕ} (inv : Writing old all out token k i left) where
   at_item : {n : Next} (bytes : List ℕ) (next : List Item → List ℕ) → At token i n → ((is : List Item) → left (n.item ∷ is) ≡ bytes ++ next is)
       → Filling old all out k (bytes ++ next (items (drop n.end token)))

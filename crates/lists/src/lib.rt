@@ -60,6 +60,7 @@ fn put_run(out: &mut [u8], k: usize, run: &[u8]) -> usize
 }
 
 // The signifiers of a token, for which there is room.
+#[tactic(auto, using(items::proofs::NextLaws::end_on))]
 pub fn fill_signifiers(out: &mut [u8], token: &[u8])
     requires { length (signifier_bytes token.now) ≤ length out.old }
     ensures { out.new ≡ stored out.old (signifier_bytes token.now) }
@@ -156,6 +157,7 @@ fn sign(s: Option<Tone>, b: u8) -> Option<Tone>
 // The pitches of a token that is no rest, for which there is room.
 // Stays: no plainer: it shares with `fill_signifiers` the tests of an item's kind alone; one walk would take a trait of five methods.
 #[inline(never)]
+#[tactic(auto, using(items::proofs::NextLaws::end_on))]
 pub fn fill_pitches(out: &mut [u8], token: &[u8])
     requires { (rest_of (items token.now) ≡ false) × (length (pitch_bytes token.now) ≤ length out.old) }
     ensures { out.new ≡ stored out.old (pitch_bytes token.now) }

@@ -16,17 +16,11 @@ use Rattle.peers.specs.Peers.{offer_of, kern_cells, Tally, one, broken, begun_by
 use Rattle.peers.proofs.SummaryLaws.{Some, met_none}
 
 -- ---- the first neighbour
-pub begun_none : (ds : List ℕ) → ds ≡ [] → broken ≡ begun_by ds
-begun_none ds e = rw e
-
 pub begun_some : (ds : List ℕ) → (length ds ≡ 0 → ⊥) → one ds ≡ begun_by ds
 begun_some [] h = absurd (h refl)
 begun_some (x ∷ xs) h = refl
 
 -- ---- one kern column more, while none was met that offers nothing
-pub lacks_none : (y : Tally) (t : List ℕ) → offer_of t ≡ [] → record { lacking = true; tally = y } ≡ column_met false y t
-lacks_none y t e = rw e
-
 lacks_by : (o : List ℕ) (y : Tally) (t : List ℕ) → (o ≡ [] → ⊥) → record { lacking = false; tally = met y t } ≡ first_lacking o y t
 lacks_by [] y t h = absurd (h refl)
 lacks_by (d ∷ ds) y t h = refl

@@ -7,7 +7,7 @@ use mathlib.Core.Bool.{Bool, true, false, cond, not, ◌&&◌, ◌||◌, false�
 use lib.Dec.{eqb, ltb}
 use lib.ListN.{length, take, length-take}
 use borrow.Author.Tests.{eq-eqb, ne_eqb, ltb-true, ltb-false}
-use Rattle.std.specs.Prelude.{Option, Some, None, slice_get}
+use Rattle.std.specs.Prelude.{Some, None, slice_get}
 use Rattle.std.specs.List.{list_all, list_any, position, position_or_len}
 use Rattle.std.proofs.lemmas.List.Recursion.{is_position_or_len}
 use Rattle.slices.proofs.TestLaws.{both}
@@ -18,7 +18,7 @@ use Rattle.notation.specs.Bytes.{contains, trim_start}
 use Rattle.items.specs.Items.{is_digit, is_letter}
 use Rattle.items.proofs.NextLaws.{letter_no_digit}
 use Rattle.token.specs.Token.{signs}
-use Rattle.peers.specs.Peers.{only_signs, is_bare, leading, forbids, if_value, offer_of, Offered}
+use Rattle.peers.specs.Peers.{only_signs, is_bare, leading, forbids, offer_of, Offered}
 
 -- ---- signs only
 pub all_signs : (s : List ℕ) → list_all (λ x. contains x signs) s ≡ only_signs s
@@ -103,10 +103,6 @@ leading_twice (x ∷ xs) = go (is_digit x) refl (leading_twice xs)
     go false e ih = refl
 
 -- ---- what a neighbour offers, by the ways out of the code
-value_none : (v : Option Value) → if_value v [] ≡ []
-value_none None = refl
-value_none (Some v) = refl
-
 pub offer_whole : (t : List ℕ) → length t ≤ length (leading t) → offer_of t ≡ []
 unfolding offer_of
 offer_whole t h = rw (eq-eqb (length (leading t)) (length t) (omega (arith, leading_short t))) (go (forbids t))

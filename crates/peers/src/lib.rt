@@ -98,7 +98,8 @@ impl<'a> Found<'a> {
                 None => Found::Broken,
             },
             Found::One(digits) | Found::More(digits) => {
-                if digits.agrees(token) {
+                let same = digits.agrees(token);
+                if same {
                     Found::More(digits)
                 } else {
                     Found::Broken

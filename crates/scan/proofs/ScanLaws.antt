@@ -1,5 +1,5 @@
 -- The loop of the scan: what it keeps, the turn that keeps it, and what it has at the end.
-use mathlib.Core.Path.{◌≡◌, refl, ◌∙◌}
+use mathlib.Core.Path.{◌≡◌, ◌∙◌}
 use Prim.Native.Nat.{ℕ, ◌+◌, ◌≤◌, ◌<◌}
 use native.Mathlib.Omega.{arith}
 use mathlib.Core.List.{List}
@@ -39,19 +39,6 @@ pub record Scanning (token : List ℕ) (l : Lengths) (f : First) (s : Sounds) (m
   pub pitches : s.pitches ≤ i
   pub signifiers : s.signifiers ≤ i
   pub articulations : m.articulations ≤ i
-
-pub scan_first : {token : List ℕ} {f : First} {m : Marks} → f ≡ no_first → m ≡ no_marks → Scanning token lengths₀ f sounds₀ m 0
-scan_first e q =
-    rw (e, q) (record {
-      high = omega arith;
-      lengths = record { same = refl };
-      first = record { same = refl };
-      sounds = record { same = refl };
-      marks = record { same = refl };
-      pitches = omega arith;
-      signifiers = omega arith;
-      articulations = omega arith;
-    })
 
 module _ {token : List ℕ} {l : Lengths} {f : First} {s : Sounds} {m : Marks} {i : ℕ} (inv : Scanning token l f s m i) where
   pub scan_turn : {n : Next} {l' : Lengths} {f' : First} {s' : Sounds} {m' : Marks} → i < length token → n ≡ next_item token i

@@ -279,6 +279,7 @@ fn step_marks(m: Marks, item: Item) -> Marks
 }
 
 // What a token says, in one pass over its items.
+#[tactic(auto, using(items::proofs::NextLaws::end_on))]
 pub fn scan_token(token: &[u8]) -> Scan
     ensures { result ≡ scan_of token.now }
 {

@@ -1,10 +1,9 @@
 -- What is stored, and what the items left give, are all; a pitch is given where its sub-token ends.
 use mathlib.Core.Path.{refl, ap, ◌∙◌}
 use mathlib.Core.List.{[]}
-use native.Mathlib.Omega.{arith}
 use Rattle.items.specs.declared.Item.TheVariants.{Digits, Letters, Blank, Mark}
 use Rattle.items.proofs.RunLaws.{next_at}
-use Rattle.items.proofs.NextLaws.{end_on, next_digits, next_letters, next_blank, next_mark}
+use Rattle.items.proofs.NextLaws.{next_digits, next_letters, next_blank, next_mark}
 use Rattle.token.specs.Token.{begun}
 use Rattle.std.specs.Prelude.{None}
 use Rattle.lists.specs.Lists.{sound_bytes}
@@ -14,14 +13,8 @@ use Rattle.lists.proofs.CountLaws.{heard_bytes, heard_next}
 use Rattle.lists.proofs.UnknownLaws.{unknowns_past}
 use Rattle.lists.proofs.fill_pitches.Goals as goal
 
-pub loop-i-smaller-then-is_digit : goal.loop-i-smaller-then-is_digit
-loop-i-smaller-then-is_digit c = omega (arith, end_on _ _ c.loop-i-test.true c.digits_end-i.ensures)
-
 pub loop-i-preserved-then-is_digit : goal.loop-i-preserved-then-is_digit
 loop-i-preserved-then-is_digit c = write_on c.loop-i.invariant _ (next_at c.loop-i-test.true (next_digits _ _ c.loop-i-test.true c.digits_end-i.ensures c.is_digit.ensures c.if-is_digit.true refl)) (heard_next c.loop-i.sound (Digits _) refl)
-
-pub loop-i-smaller-then-is_letter : goal.loop-i-smaller-then-is_letter
-loop-i-smaller-then-is_letter c = omega (arith, end_on _ _ c.loop-i-test.true c.letter_end-end.ensures)
 
 pub loop-i-preserved-then-is_letter : goal.loop-i-preserved-then-is_letter
 loop-i-preserved-then-is_letter c = write_on c.loop-i.invariant _ (next_at c.loop-i-test.true (next_letters _ _ c.loop-i-test.true c.letter_end-end.ensures c.is_digit.ensures c.if-is_digit.false c.is_letter.ensures c.if-is_letter.true)) (heard_next c.loop-i.sound (Letters _ _) (c.begin-sound.ensures ∙ ap (begun c.loop-i.sound) c.pitch_of.ensures))

@@ -3,30 +3,21 @@ use mathlib.Core.Path.{refl}
 use mathlib.Core.List.{[], ◌∷◌}
 use native.Mathlib.Omega.{arith}
 use Rattle.items.proofs.RunLaws.{next_at}
-use Rattle.items.proofs.NextLaws.{end_on, next_digits, next_letters, next_blank, next_mark}
+use Rattle.items.proofs.NextLaws.{next_digits, next_letters, next_blank, next_mark}
 use Rattle.token.specs.Token.{signifiers}
 use Rattle.lists.proofs.FillLaws.{fill_as, fill_past, write_room, write_on, write_turn, write_left}
 use Rattle.token.proofs.SignifierLaws.{no_signifiers, past_digits, past_pitch, past_run, past_blank, past_known, past_unknown}
 use Rattle.lists.proofs.UnknownLaws.{unknowns_room, unknowns_turn}
 use Rattle.lists.proofs.fill_signifiers.Goals as goal
 
-pub loop-i-smaller-then-is_digit : goal.loop-i-smaller-then-is_digit
-loop-i-smaller-then-is_digit c = omega (arith, end_on _ _ c.loop-i-test.true c.digits_end-i.ensures)
-
 pub loop-i-preserved-then-is_digit : goal.loop-i-preserved-then-is_digit
 loop-i-preserved-then-is_digit c = write_on c.loop-i.invariant _ (next_at c.loop-i-test.true (next_digits _ _ c.loop-i-test.true c.digits_end-i.ensures c.is_digit.ensures c.if-is_digit.true refl)) (past_digits c.loop-i.sounding _)
-
-pub loop-i-smaller-then-fits : goal.loop-i-smaller-then-fits
-loop-i-smaller-then-fits c = omega (arith, end_on _ _ c.loop-i-test.true c.letter_end-end.ensures)
 
 pub loop-i-preserved-then-fits : goal.loop-i-preserved-then-fits
 loop-i-preserved-then-fits c = write_on c.loop-i.invariant _ (next_at c.loop-i-test.true (next_letters _ _ c.loop-i-test.true c.letter_end-end.ensures c.is_digit.ensures c.if-is_digit.false c.is_letter.ensures c.if-is_letter.true)) (past_pitch c.loop-i.sounding _ _ c.fits.ensures c.if-fits.true)
 
 pub bounds-out-k : goal.bounds-out-k
 bounds-out-k c = omega (arith, write_room c.loop-i.invariant (_ ∷ []) (signifiers c.loop-i.sounding) (next_at c.loop-i-test.true (next_letters _ _ c.loop-i-test.true c.letter_end-end.ensures c.is_digit.ensures c.if-is_digit.false c.is_letter.ensures c.if-is_letter.true)) (past_run c.loop-i.sounding _ _ c.fits.ensures c.if-fits.false))
-
-pub loop-i-smaller-then-is_letter : goal.loop-i-smaller-then-is_letter
-loop-i-smaller-then-is_letter c = omega (arith, end_on _ _ c.loop-i-test.true c.letter_end-end.ensures)
 
 pub loop-i-preserved-then-is_letter : goal.loop-i-preserved-then-is_letter
 loop-i-preserved-then-is_letter c = write_turn c.loop-i.invariant (_ ∷ []) (signifiers c.loop-i.sounding) (next_at c.loop-i-test.true (next_letters _ _ c.loop-i-test.true c.letter_end-end.ensures c.is_digit.ensures c.if-is_digit.false c.is_letter.ensures c.if-is_letter.true)) (past_run c.loop-i.sounding _ _ c.fits.ensures c.if-fits.false) refl refl
