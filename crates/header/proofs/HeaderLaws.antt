@@ -33,17 +33,6 @@ use Rattle.header.proofs.ColumnLaws.{any_none, any_some}
 
 -- ---- reference records
 
--- a record's pieces stand inside its line
-module _ (s t : List ℕ) (r : Reference) (offset : ℕ) (cut : t ≡ drop 3 s) (is : r ≡ reference_of t) (few : offset + length s < 2 ^ 27) where
-  short : length t ≤ length s
-  short = omega (arith, ap length cut, length-drop 3 s)
-
-  pub value_low : offset + r.value_span.at + r.value_span.len < 2 ^ 27
-  value_low = let v : r.value_span.at + r.value_span.len ≤ length t = rw is (value_inside t) in omega (arith, short)
-
-  pub key_low : offset + r.key_span.at + r.key_span.len < 2 ^ 27
-  key_low = let v : r.key_span.at + r.key_span.len ≤ length t = rw is (key_inside t) in omega (arith, short)
-
 -- what it comes to, by its key
 module _ (s t : List ℕ) (r : Reference) (k offset : ℕ) (u : Tally) (cut : t ≡ drop 3 s) (is : r ≡ reference_of t) (value : Span)
     (there : value ≡ span_of (offset + 3 + r.value_span.at) r.value_span.len) where

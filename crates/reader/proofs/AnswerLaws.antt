@@ -164,27 +164,31 @@ tells text out rest (Err r) e = refusal_is (read_text text) (number_of r) (line_
 abbrev pub Stopped : List ℕ → Type 0
 Stopped text = Question8 text × (Question17 text × OneOrigin text)
 
-stopped : (text : List ℕ) → Stopped text
-stopped text = (question_8 text, (question_17 text, one_origin text))
-
 abbrev pub Answers : List ℕ → List ℕ → List ℕ → Result ℕ Refusal → Type 0
-Answers text old now-out r =
-    (numbers_of r ≡ answer_of text old)
-    × ((now-out ≡ buffer_of text old)
-    × (((n : ℕ) → r ≡ Ok n → (n ≤ length old) × Played text now-out) × (((f : ℕ) → r ≡ Err (ShortBuffer f) → f < 2 ^ 32) × Stopped text)))
+Answers text old now-out r = record {
+  answer : numbers_of r ≡ answer_of text old;
+  buffer : now-out ≡ buffer_of text old;
+  fits : (n : ℕ) → r ≡ Ok n → n ≤ length old;
+  played : (n : ℕ) → r ≡ Ok n → Played text now-out;
+  needed : (f : ℕ) → r ≡ Err (ShortBuffer f) → f < 2 ^ 32;
+  stopped : Question8 text;
+  joined : Question17 text;
+  traced : OneOrigin text;
+}
 
 pub answers_refused : (text old : List ℕ) (r : Refusal) → read_text text ≡ refusal (number_of r) (line_of r) (figure_of r) → Answers text old old (Err r)
 answers_refused text old r e =
-    let a = answers_refusal text old (number_of r) (line_of r) (figure_of r) e in (
-      sym a.0,
-      (
-        sym a.1,
-        (
-          λ (k : ℕ) q. clash cc,
-          (λ (g : ℕ) q. absurd (refusal_not_13 text (number_of r) (line_of r) (figure_of r) e (is_13 q)), stopped text),
-        ),
-      ),
-    )
+    let a = answers_refusal text old (number_of r) (line_of r) (figure_of r) e in
+    record {
+      answer = sym a.0;
+      buffer = sym a.1;
+      fits = λ (k : ℕ) q. clash cc;
+      played = λ (k : ℕ) q. clash cc;
+      needed = λ (g : ℕ) q. absurd (refusal_not_13 text (number_of r) (line_of r) (figure_of r) e (is_13 q));
+      stopped = question_8 text;
+      joined = question_17 text;
+      traced = one_origin text;
+    }
   where
     is_13 : {g : ℕ} → ◌≡◌ {A = Result ℕ Refusal} (Err r) (Err (ShortBuffer g)) → number_of r ≡ 13
     is_13 {g} q = let z : r ≡ ShortBuffer g = cc in ap number_of z
@@ -192,29 +196,30 @@ answers_refused text old r e =
 pub answers_short : {text : List ℕ} {parts notes at : ℕ} (old : List ℕ) → Measured text parts notes at → length old < 16 + at
     → Answers text old old (Err (ShortBuffer (16 + at)))
 answers_short {text} {parts} {notes} {at} old m h =
-    let a = answers_13 old m h in (
-      sym a.0,
-      (
-        sym a.1,
-        (
-          λ (k : ℕ) q. clash cc,
-          (λ (g : ℕ) q. let z : 16 + at ≡ g = cc in omega (arith, measured_long m), stopped text),
-        ),
-      ),
-    )
+    let a = answers_13 old m h in
+    record {
+      answer = sym a.0;
+      buffer = sym a.1;
+      fits = λ (k : ℕ) q. clash cc;
+      played = λ (k : ℕ) q. clash cc;
+      needed = λ (g : ℕ) q. let z : 16 + at ≡ g = cc in omega (arith, measured_long m);
+      stopped = question_8 text;
+      joined = question_17 text;
+      traced = one_origin text;
+    }
 
 pub answers_written : {text : List ℕ} {parts notes at : ℕ} (old : List ℕ) → ((i : ℕ) → get_or text i 0 < 2 ^ 8) → Measured text parts notes at → 16 + at ≤ length old
     → {now-out : List ℕ} → now-out ≡ buffer_of text old → Answers text old now-out (Ok (16 + at))
-answers_written {text} {parts} {notes} {at} old bytes m h {now-out} e = (
-  sym (answers_sheet old m h),
-  (
-    e,
-    (
-      λ (k : ℕ) q. let z : 16 + at ≡ k = cc in (omega arith, subst (Played text) (sym e) (played text old bytes parts notes m.records m.is (omega (arith, m.size)))),
-      (λ (g : ℕ) q. clash cc, stopped text),
-    ),
-  ),
-)
+answers_written {text} {parts} {notes} {at} old bytes m h {now-out} e = record {
+  answer = sym (answers_sheet old m h);
+  buffer = e;
+  fits = λ (k : ℕ) q. let z : 16 + at ≡ k = cc in omega arith;
+  played = λ (k : ℕ) q. subst (Played text) (sym e) (played text old bytes parts notes m.records m.is (omega (arith, m.size)));
+  needed = λ (g : ℕ) q. clash cc;
+  stopped = question_8 text;
+  joined = question_17 text;
+  traced = one_origin text;
+}
 
 -- by the case that the first reading's answer is
 pub told_written : (text : List ℕ) (f : Result Written Refusal) → Tells f text → {w : Written} → f ≡ Ok w → Measured text w.parts w.notes w.at
