@@ -180,15 +180,6 @@ laying_turn table row {i} {c} inv h few e =
     ∙ ap₂ (λ (x : List ℕ) (y : ℕ). x ++ (y ∷ [])) inv (e ∙ sym (cells_at table i))
     ∙ sym (ap (λ (k : ℕ). take k (cells_of table)) (add-one i) ∙ take-suc (cells_of table) i 0 (omega (arith, cells_length table)))
 
--- the first row, of the table's cells
-pub row_laid : (s old row : List ℕ) {spines : List (Option Active-line)} {n p : ℕ} → n ≡ length (tokens_of s) → n ≤ length old → length (tokens_of s) ≤ 256 → HeaderTable (tokens_of s) spines p
-    → length row ≡ length (take n old) → row ≡ take (length (take n old)) (cells_of spines)
-    → (row_of (take (length (tokens_of s)) (row ++ drop n old)) ≡ header_row (map is_kern (tokens_of s))) × ((p ≡ length (fresh_parts 0 (map is_kern (tokens_of s)))) × (p ≤ 256))
-row_laid s old row {spines} {n} {p} count room few t long e =
-    let l : length row ≡ n = long ∙ length-take-le n old room in
-    let back : take (length (tokens_of s)) (row ++ drop n old) ≡ row = ap (λ (k : ℕ). take k (row ++ drop n old)) (sym count) ∙ take_at row (drop n old) n l in
-    (ap row_of (back ∙ e ∙ ap (λ (k : ℕ). take k (cells_of spines)) (length-take-le n old room ∙ count)) ∙ t.row, (t.parts, omega (arith, t.few)))
-
 -- question 5: no part, no `**kern`
 pub any_none : (p : ℕ) (ks : List Bool) → length (fresh_parts p ks) ≡ 0 → any_kern ks ≡ false
 unfolding fresh_parts any_kern

@@ -159,11 +159,6 @@ tells text out rest (Ok w) e = measured text w.parts w.notes w.at out rest e
 tells text out rest (Err r) e = refusal_is (read_text text) (number_of r) (line_of r) (figure_of r) out e
 
 -- ---- the answers, with all that the contract says of them
-
--- what holds of every text: questions 8 and 17, and the traces
-abbrev pub Stopped : List ℕ → Type 0
-Stopped text = Question8 text × (Question17 text × OneOrigin text)
-
 abbrev pub Answers : List ℕ → List ℕ → List ℕ → Result ℕ Refusal → Type 0
 Answers text old now-out r = record {
   answer : numbers_of r ≡ answer_of text old;
