@@ -10,7 +10,7 @@ use denote.Ref.{Bor}
 use denote.Param.Members.{Mut}
 use lib.Dec.{eqb}
 use lib.ListN.{length, get_or, take, drop, set, replicate, length-set, get_or-map, drop_of_length-le}
-use lib.Seq.{take-suc, take-suc-set, get_or-set_other, drop-cons, length-take-le}
+use lib.Seq.{take-suc, take-suc-set, get_or-set_other, drop-cons}
 use Rattle.std.specs.List.{enumerate_from}
 use Rattle.std.specs.Fn.{CalledAt}
 use Rattle.std.specs.Iterator.{Yields}
@@ -18,7 +18,7 @@ use Rattle.std.specs.Iterator.Adapters.{enumerate_source, enumerate_count, enume
 use Rattle.std.specs.Slice.Iter.{split_steps, split_rest, split_done, split_callee}
 use Rattle.std.proofs.lemmas.Iterator.{YieldsList}
 use Rattle.std.proofs.lemmas.Iterator.Consumers.{YieldsList-from_enumerate, YieldsList-turn, YieldsList-end}
-use Rattle.std.proofs.lemmas.List.{take_at, length-replicate, set-get_or}
+use Rattle.std.proofs.lemmas.List.{length-replicate, set-get_or}
 use Rattle.std.proofs.lemmas.List.FromFn.{length-enumerate_from, get_or-enumerate_from}
 use Rattle.lines.specs.Tokens.{tokens_of, is_kern}
 use Rattle.lines.proofs.ChainLaws.{YieldsList-from_tokens}

@@ -1,7 +1,6 @@
 -- The parts of a header, of which nothing is known.
-use Rattle.std.proofs.Common.{◌≡◌, ℕ, zero, suc, ◌+◌, ◌≤◌, ◌<◌, Bool, true, false, List, [], ◌∷◌, ◌++◌, ltb, length, get_or, take, drop, set, refl, sym, ap, ◌∙◌, add-zero, zero-add, length-take-le, arith}
-use lib.Seq.{ext_get_or, get_or-set_same, get_or-set_other}
-use borrow.Author.Tests.{ltb-true, ltb-false}
+use Rattle.std.proofs.Common.{◌≡◌, ℕ, zero, suc, ◌+◌, ◌≤◌, ◌<◌, Bool, true, false, List, [], ◌∷◌, ◌++◌, length, get_or, take, drop, sym, ap, ◌∙◌, add-zero, zero-add, length-take-le, arith}
+use lib.Seq.{ext_get_or}
 use Rattle.reading.specs.State.{fresh_part}
 use Rattle.reading.specs.declared.Part.{Part}
 use Rattle.reading.specs.Header.{fresh_parts}

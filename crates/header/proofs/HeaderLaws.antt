@@ -1,11 +1,10 @@
 -- A reference record and a header line, as they land.
 use Rattle.std.specs.Prelude.{Ok}
 use mathlib.Core.Path.{◌≡◌, refl, sym, ap, ap₂, ◌∙◌}
-use Prim.Native.Nat.{ℕ, ◌+◌, ◌≤◌, ◌<◌, ◌^◌}
-use native.Mathlib.Omega.{arith}
+use Prim.Native.Nat.{ℕ, ◌+◌, ◌≤◌, ◌<◌}
 use mathlib.Core.Bool.{Bool, true, false}
 use mathlib.Core.List.{List, [], map}
-use lib.ListN.{length, take, drop, length-drop}
+use lib.ListN.{length, take, drop}
 use borrow.Author.Tests.{lt-ltb, le-ltb}
 use Rattle.state.specs.Counts.{Same}
 use Rattle.lines.specs.Tokens.{tokens_of, is_kern, is_exclusive}
@@ -13,7 +12,6 @@ use Rattle.reference.specs.Reference.{reference_of}
 use Rattle.reference.specs.declared.Reference.{Reference}
 use Rattle.reference.specs.declared.Key.{Key}
 use Rattle.reference.specs.declared.Key.TheVariants.{Title, Composer, Lyricist, Other}
-use Rattle.reference.proofs.ReferenceLaws.{key_inside, value_inside}
 use Rattle.paths.specs.declared.Spine.{Spine}
 use Rattle.paths.specs.Text.{header_row}
 use Rattle.repair.specs.Repair.{each}

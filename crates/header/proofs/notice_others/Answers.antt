@@ -1,9 +1,5 @@
 -- The notices of the tokens left, laid from here, are all of them, laid from the start.
-use Rattle.std.proofs.Common.{◌∙◌, sym, subst, ℕ, ◌+◌, length, length-append, rules, tests, arith}
-use Rattle.std.proofs.lemmas.Iterator.Consumers.{YieldsList-from_enumerate, YieldsList-turn, YieldsList-end}
-use Rattle.std.proofs.lemmas.List.FromFn.{length-enumerate_from}
-use Rattle.lines.specs.Tokens.{tokens_of}
-use Rattle.lines.proofs.ChainLaws.{YieldsList-from_tokens}
+use Rattle.std.proofs.Common.{sym, subst, ℕ, ◌+◌, length, length-append, rules, tests, arith}
 use Rattle.header.proofs.ColumnLaws.{numbered_turn, numbered_end}
 use Rattle.header.proofs.NoticeLaws.{Noticing, noticing_first, noticing_room, noticing_turn, noticing_past}
 use Rattle.header.proofs.notice_others.Goals as goal

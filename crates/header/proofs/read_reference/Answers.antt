@@ -1,7 +1,6 @@
 -- By what the key names; the pieces of a record stand inside its line.
 use mathlib.Core.Path.{refl, sym, subst}
 use mathlib.Core.List.{[]}
-use native.Mathlib.Omega.{arith}
 use Rattle.state.specs.Counts.{Same}
 use Rattle.writing.proofs.KeptLaws.{kept_same}
 use Rattle.header.proofs.HeaderLaws.{title_told, composer_told, lyricist_told, other_key_told}

@@ -1,9 +1,6 @@
 -- The spines written, and the columns of the tokens left, make the first row.
 use Rattle.std.proofs.Common.{◌∙◌, sym, subst, ℕ, ◌+◌, set, Some, length-append, rules, tests, arith}
-use Rattle.std.proofs.lemmas.Iterator.Consumers.{YieldsList-from_enumerate, YieldsList-turn, YieldsList-end}
-use Rattle.std.proofs.lemmas.List.FromFn.{length-enumerate_from}
 use Rattle.lines.specs.Tokens.{tokens_of}
-use Rattle.lines.proofs.ChainLaws.{YieldsList-from_tokens}
 use Rattle.header.proofs.ColumnLaws.{Filling, numbered_turn, numbered_end, filling_first, filling_kern, filling_other, filling_past}
 use Rattle.header.proofs.table_of.Goals as goal
 
