@@ -38,12 +38,6 @@ marched_turn f old new i d {q} lt long m e =
     let x = get_or new i d in
     ap (set new i) e ∙ map_over_more f old new i x lt m (get_or_default new i d x (omega arith))
 
-pub marched_past : (f : Part → Part) (old new : List Part) (i : ℕ) → length old ≤ i → Marched f old new i → new ≡ map f old
-marched_past f old new i h m =
-    m
-    ∙ ap₂ (λ (a b : List Part). map f a ++ b) (take_all i old h) (drop_of_length-le old {i = i} h)
-    ∙ append-nil (map f old)
-
 -- ---- records stand in a buffer from a place on, and end at another
 pub record Laid (rs : List Record) (old new : List ℕ) (at k : ℕ) : Type 0 where
   pub out : new ≡ laid old at rs
@@ -73,12 +67,6 @@ close_turn f g parts new i d {old} {mid} {out} {at} {j} {k} lt m l more =
     ∙ ap (λ (p : Part). map g (take i parts) ++ g p ∷ []) (sym (marched_at f parts new i d lt m)) in
     subst (λ (rs : List Record). Laid rs old out at k) (sym all) (laid_more (map g (take i parts)) (g (get_or new i d)) l more)
 
-pub close_past : (g : Part → Record) (parts : List Part) (i : ℕ) {old out : List ℕ} {at k : ℕ} → length parts ≤ i → Laid (map g (take i parts)) old out at k
-    → (out ≡ laid old at (map g parts)) × (k ≡ behind at (map g parts))
-close_past g parts i {old} {out} {at} {k} h l =
-    let all : map g (take i parts) ≡ map g parts = ap (map g) (take_all i parts h) in
-    (l.out ∙ ap (laid old at) all, l.end ∙ ap (behind at) all)
-
 -- a record of each part that a loop was given
 abbrev pub given : List (Bor Part) → List Part
 given ps = map (λ (p : Bor Part). p.now) ps
@@ -91,7 +79,3 @@ given_turn g ps p {r} {old} {mid} {out} {at} {j} {k} e l more =
     ∙ map-append g (given ps) (p.now ∷ [])
     ∙ ap (λ (x : Record). map g (given ps) ++ x ∷ []) (sym e) in
     subst (λ (rs : List Record). Laid rs old out at k) (sym all) (laid_more (map g (given ps)) r l more)
-
-pub given_past : (g : Part → Record) (ps : List (Bor Part)) {all : List Part} {old out : List ℕ} {at k : ℕ} → given ps ≡ all → Laid (map g (given ps)) old out at k
-    → (out ≡ laid old at (map g all)) × (k ≡ behind at (map g all))
-given_past g ps {all} {old} {out} {at} {k} e l = (l.out ∙ ap (λ (qs : List Part). laid old at (map g qs)) e, l.end ∙ ap (λ (qs : List Part). behind at (map g qs)) e)

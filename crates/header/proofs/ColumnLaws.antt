@@ -6,12 +6,22 @@ use native.Mathlib.Numerals.{add-one}
 use native.Mathlib.Omega.{arith}
 use mathlib.Core.Bool.{Bool, true, false}
 use mathlib.Core.List.{List, [], ◌∷◌, ◌++◌, map, append_assoc, append-nil}
+use denote.Ref.{Bor}
+use denote.Param.Members.{Mut}
+use lib.Dec.{eqb}
 use lib.ListN.{length, get_or, take, drop, set, replicate, length-set, get_or-map, drop_of_length-le}
-use lib.Seq.{take-suc, take-suc-set, get_or-set_other, drop-cons, length-take-le}
+use lib.Seq.{take-suc, take-suc-set, get_or-set_other, drop-cons}
 use Rattle.std.specs.List.{enumerate_from}
-use Rattle.std.proofs.lemmas.List.{take_at, length-replicate, set-get_or}
+use Rattle.std.specs.Fn.{CalledAt}
+use Rattle.std.specs.Iterator.{Yields}
+use Rattle.std.specs.Iterator.Adapters.{enumerate_source, enumerate_count, enumerate_steps}
+use Rattle.std.specs.Slice.Iter.{split_steps, split_rest, split_done, split_callee}
+use Rattle.std.proofs.lemmas.Iterator.{YieldsList}
+use Rattle.std.proofs.lemmas.Iterator.Consumers.{YieldsList-from_enumerate, YieldsList-turn, YieldsList-end}
+use Rattle.std.proofs.lemmas.List.{length-replicate, set-get_or}
 use Rattle.std.proofs.lemmas.List.FromFn.{length-enumerate_from, get_or-enumerate_from}
 use Rattle.lines.specs.Tokens.{tokens_of, is_kern}
+use Rattle.lines.proofs.ChainLaws.{YieldsList-from_tokens}
 use Rattle.paths.specs.declared.Spine.{Spine}
 use Rattle.paths.specs.declared.Spine.TheVariants.{Line, Outside}
 use Rattle.paths.specs.Text.{header_from, header_row}
@@ -63,6 +73,20 @@ token_turn ts {n} {i} {x} t =
     let lt : n < length ts = omega (arith, t.0, length-enumerate_from 0 ts) in
     let e : (i, x) ≡ (0 + n, get_or ts n x) = t.1 ∙ get_or-enumerate_from 0 ts n (i, x) lt in
     (lt, (ap (λ (p : ℕ × List ℕ). p.0) e ∙ zero-add n, ap (λ (p : ℕ × List ℕ). p.1) e))
+
+-- such a loop, over `line.split(|b| *b == b'\t').enumerate()`, which has given xs: its next turn, and its end
+module _ {F : Type 0} (g : Mut F (Bor ℕ × Unit {0}) Bool) {f : F} (s : _) (line : List ℕ)
+    (starts : (split_rest (enumerate_source s) ≡ line) × (split_done (enumerate_source s) ≡ false) × (split_callee (enumerate_source s) ≡ f) × (enumerate_count s ≡ 0)
+    × ((x : ℕ) (b : Bool) (q : F) → CalledAt g f x b q → (q ≡ f) × (b ≡ eqb x 9))) where
+  road : YieldsList {B = ℕ × List ℕ} (enumerate_steps (split_steps g)) (λ p. (p.0, p.1.now)) s (enumerate_from 0 (tokens_of line))
+  road = YieldsList-from_enumerate (YieldsList-from_tokens g line starts.0 starts.1 starts.2 starts.4) starts.3
+
+  module _ (xs : List (ℕ × Bor (List ℕ))) (t u : _) (given : Yields (enumerate_steps (split_steps g)) s xs t) (r : Option (ℕ × Bor (List ℕ))) (step : enumerate_steps (split_steps g) t r u) where
+    pub numbered_turn : {i : ℕ} {x : Bor (List ℕ)} → r ≡ Some (i, x) → (length xs < length (tokens_of line)) × ((i ≡ length xs) × (x.now ≡ get_or (tokens_of line) (length xs) x.now))
+    numbered_turn {i} {x} is = token_turn (tokens_of line) (YieldsList-turn road xs t given r u (i, x) is step)
+
+    pub numbered_end : r ≡ None → length xs ≡ length (tokens_of line)
+    numbered_end is = (YieldsList-end road xs t given r u is step).1 ∙ length-enumerate_from 0 (tokens_of line)
 
 -- ---- the table: the spines of the first n tokens are written, with p parts
 pub record Filling (ts : List (List ℕ)) (spines : List (Option Active-line)) (n p : ℕ) : Type 0 where
@@ -155,15 +179,6 @@ laying_turn table row {i} {c} inv h few e =
     ∙ take-suc-set row i c h
     ∙ ap₂ (λ (x : List ℕ) (y : ℕ). x ++ (y ∷ [])) inv (e ∙ sym (cells_at table i))
     ∙ sym (ap (λ (k : ℕ). take k (cells_of table)) (add-one i) ∙ take-suc (cells_of table) i 0 (omega (arith, cells_length table)))
-
--- the first row, of the table's cells
-pub row_laid : (s old row : List ℕ) {spines : List (Option Active-line)} {n p : ℕ} → n ≡ length (tokens_of s) → n ≤ length old → length (tokens_of s) ≤ 256 → HeaderTable (tokens_of s) spines p
-    → length row ≡ length (take n old) → row ≡ take (length (take n old)) (cells_of spines)
-    → (row_of (take (length (tokens_of s)) (row ++ drop n old)) ≡ header_row (map is_kern (tokens_of s))) × ((p ≡ length (fresh_parts 0 (map is_kern (tokens_of s)))) × (p ≤ 256))
-row_laid s old row {spines} {n} {p} count room few t long e =
-    let l : length row ≡ n = long ∙ length-take-le n old room in
-    let back : take (length (tokens_of s)) (row ++ drop n old) ≡ row = ap (λ (k : ℕ). take k (row ++ drop n old)) (sym count) ∙ take_at row (drop n old) n l in
-    (ap row_of (back ∙ e ∙ ap (λ (k : ℕ). take k (cells_of spines)) (length-take-le n old room ∙ count)) ∙ t.row, (t.parts, omega (arith, t.few)))
 
 -- question 5: no part, no `**kern`
 pub any_none : (p : ℕ) (ks : List Bool) → length (fresh_parts p ks) ≡ 0 → any_kern ks ≡ false

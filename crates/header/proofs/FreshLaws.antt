@@ -1,7 +1,6 @@
 -- The parts of a header, of which nothing is known.
-use Rattle.std.proofs.Common.{◌≡◌, ℕ, zero, suc, ◌+◌, ◌≤◌, ◌<◌, Bool, true, false, List, [], ◌∷◌, ◌++◌, ltb, length, get_or, take, drop, set, refl, sym, ap, ◌∙◌, add-zero, zero-add, length-take-le, arith}
-use lib.Seq.{ext_get_or, get_or-set_same, get_or-set_other}
-use borrow.Author.Tests.{ltb-true, ltb-false}
+use Rattle.std.proofs.Common.{◌≡◌, ℕ, zero, suc, ◌+◌, ◌≤◌, ◌<◌, Bool, true, false, List, [], ◌∷◌, ◌++◌, length, get_or, take, drop, sym, ap, ◌∙◌, add-zero, zero-add, length-take-le, arith}
+use lib.Seq.{ext_get_or}
 use Rattle.reading.specs.State.{fresh_part}
 use Rattle.reading.specs.declared.Part.{Part}
 use Rattle.reading.specs.Header.{fresh_parts}
@@ -17,17 +16,6 @@ fresh_at p (false ∷ ks) k h = fresh_at p ks k h
 -- the first p parts are fresh
 abbrev pub Freshened : List Part → ℕ → Type 0
 Freshened parts p = (k : ℕ) → k < p → get_or parts k (fresh_part 0) ≡ fresh_part k
-
-pub freshened_turn : (parts : List Part) {p : ℕ} {q : Part} → Freshened parts p → p < length parts → q ≡ fresh_part p → Freshened (set parts p q) (p + 1)
-freshened_turn parts {p} {q} h lt e k u = go (ltb k p) refl
-  where
-    go : (b : Bool) → ltb k p ≡ b → get_or (set parts p q) k (fresh_part 0) ≡ fresh_part k
-    go true t =
-        let v : k < p = ltb-true k p t in get_or-set_other parts p k q (fresh_part 0) (λ z. omega arith) ∙ h k v
-    go false t =
-        let v : p ≤ k = ltb-false k p t in
-        let w : k ≡ p = omega arith in
-        ap (λ (j : ℕ). get_or (set parts p q) j (fresh_part 0)) w ∙ get_or-set_same parts p q (fresh_part 0) lt ∙ e ∙ ap fresh_part (sym w)
 
 pub all_fresh : {parts : List Part} {p : ℕ} → Freshened parts p → length parts ≤ p → (ks : List Bool) → length parts ≡ length (fresh_parts 0 ks) → parts ≡ fresh_parts 0 ks
 all_fresh {parts} h past ks e =

@@ -1,11 +1,10 @@
 -- A reference record and a header line, as they land.
 use Rattle.std.specs.Prelude.{Ok}
 use mathlib.Core.Path.{◌≡◌, refl, sym, ap, ap₂, ◌∙◌}
-use Prim.Native.Nat.{ℕ, ◌+◌, ◌≤◌, ◌<◌, ◌^◌}
-use native.Mathlib.Omega.{arith}
+use Prim.Native.Nat.{ℕ, ◌+◌, ◌≤◌, ◌<◌}
 use mathlib.Core.Bool.{Bool, true, false}
 use mathlib.Core.List.{List, [], map}
-use lib.ListN.{length, take, drop, length-drop}
+use lib.ListN.{length, take, drop}
 use borrow.Author.Tests.{lt-ltb, le-ltb}
 use Rattle.state.specs.Counts.{Same}
 use Rattle.lines.specs.Tokens.{tokens_of, is_kern, is_exclusive}
@@ -13,7 +12,6 @@ use Rattle.reference.specs.Reference.{reference_of}
 use Rattle.reference.specs.declared.Reference.{Reference}
 use Rattle.reference.specs.declared.Key.{Key}
 use Rattle.reference.specs.declared.Key.TheVariants.{Title, Composer, Lyricist, Other}
-use Rattle.reference.proofs.ReferenceLaws.{key_inside, value_inside}
 use Rattle.paths.specs.declared.Spine.{Spine}
 use Rattle.paths.specs.Text.{header_row}
 use Rattle.repair.specs.Repair.{each}
@@ -32,17 +30,6 @@ use Rattle.writing.proofs.KeptLaws.{kept_told}
 use Rattle.header.proofs.ColumnLaws.{any_none, any_some}
 
 -- ---- reference records
-
--- a record's pieces stand inside its line
-module _ (s t : List ℕ) (r : Reference) (offset : ℕ) (cut : t ≡ drop 3 s) (is : r ≡ reference_of t) (few : offset + length s < 2 ^ 27) where
-  short : length t ≤ length s
-  short = omega (arith, ap length cut, length-drop 3 s)
-
-  pub value_low : offset + r.value_span.at + r.value_span.len < 2 ^ 27
-  value_low = let v : r.value_span.at + r.value_span.len ≤ length t = rw is (value_inside t) in omega (arith, short)
-
-  pub key_low : offset + r.key_span.at + r.key_span.len < 2 ^ 27
-  key_low = let v : r.key_span.at + r.key_span.len ≤ length t = rw is (key_inside t) in omega (arith, short)
 
 -- what it comes to, by its key
 module _ (s t : List ℕ) (r : Reference) (k offset : ℕ) (u : Tally) (cut : t ≡ drop 3 s) (is : r ≡ reference_of t) (value : Span)

@@ -26,6 +26,7 @@ use spines::Line;
 use state::Tally;
 
 // A reference record: `!!!OTL`, `!!!COM` and `!!!LYR` set title, composer and lyricist; any other key gives notice 1.
+#[tactic(auto, using(reference::proofs::ReferenceLaws::value_inside, reference::proofs::ReferenceLaws::key_inside))]
 pub fn read_reference(line: TextLine, tally: Tally, out: &mut [u8]) -> Tally
     ensures told { (cells : List ℕ) (parts : List Part) → told (Ok result) cells parts out.new ≡ landed (goes (read_reference line.entry.number line.entry.offset line.entry.bytes.now (state_of cells parts tally))) out.old tally.at }
     ensures same { Same tally result }

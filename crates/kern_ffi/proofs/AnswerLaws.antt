@@ -14,7 +14,9 @@ use Rattle.demand.proofs.PlayedLaws.{played}
 use Rattle.demand.proofs.NumberLaws.{refusal_number, refusal_not_13}
 use Rattle.extent.proofs.TextLaws.{sheet_length}
 use Rattle.kern_ffi.specs.Answer.{number_of, figure_of, three_of, numbers_in}
-use Rattle.reader.proofs.AnswerLaws.{Stopped, sheet_long}
+use Rattle.reader.proofs.AnswerLaws.{sheet_long}
+use Rattle.account.specs.Reached.{Question8, Question17}
+use Rattle.account.proofs.Question.{question_8, question_17}
 
 -- 0 is an acceptance's number alone, and 13 has the length that is needed
 abbrev Tells : List ℕ → List ℕ → ℕ × ℕ × ℕ → Type 0
@@ -41,26 +43,28 @@ module _ (text old : List ℕ) (bytes : (i : ℕ) → get_or text i 0 < 2 ^ 8) w
 
 -- all that the contract says, of the three numbers
 abbrev pub Answers : List ℕ → List ℕ → List ℕ → List ℕ → ℕ → Type 0
-Answers text old now-out three r =
-    (r ≡ number_of (answer_of text old))
-    × ((three ≡ three_of (answer_of text old))
-    × ((now-out ≡ buffer_of text old)
-    × ((r ≡ 0 → Played text now-out) × ((r ≡ 13 → figure_of (answer_of text old) < 2 ^ 32) × Stopped text (numbers_in three)))))
+Answers text old now-out three r = record {
+  number : r ≡ number_of (answer_of text old);
+  answer : three ≡ three_of (answer_of text old);
+  buffer : now-out ≡ buffer_of text old;
+  played : r ≡ 0 → Played text now-out;
+  needed : r ≡ 13 → figure_of (answer_of text old) < 2 ^ 32;
+  stopped : Question8 text (numbers_in three);
+  joined : Question17 text (numbers_in three);
+}
 
 pub answers : (text old now-out three : List ℕ) → ((i : ℕ) → get_or text i 0 < 2 ^ 8) → {a : ℕ × ℕ × ℕ} {r : ℕ} → a ≡ answer_of text old → r ≡ number_of a → three ≡ three_of a
-    → now-out ≡ buffer_of text old → Stopped text a → Answers text old now-out three r
-answers text old now-out three bytes {a} {r} e n t b q =
+    → now-out ≡ buffer_of text old → Answers text old now-out three r
+answers text old now-out three bytes {a} {r} e n t b =
     let said = tells text old bytes in
-    let number : r ≡ number_of (answer_of text old) = n ∙ ap number_of e in (
-      number,
-      (
-        t ∙ ap three_of e,
-        (
-          b,
-          (
-            λ z. subst (Played text) (sym b) (said.0 (sym number ∙ z)),
-            (λ z. said.1 (sym number ∙ z), subst (Stopped text) (sym (ap numbers_in t)) q),
-          ),
-        ),
-      ),
-    )
+    let number : r ≡ number_of (answer_of text old) = n ∙ ap number_of e in
+    let given : numbers_in three ≡ answer_of text old = ap numbers_in t ∙ e in
+    record {
+      number = number;
+      answer = t ∙ ap three_of e;
+      buffer = b;
+      played = λ z. subst (Played text) (sym b) (said.0 (sym number ∙ z));
+      needed = λ z. said.1 (sym number ∙ z);
+      stopped = subst (Question8 text) (sym given) (question_8 text old);
+      joined = subst (Question17 text) (sym given) (question_17 text old);
+    }

@@ -157,32 +157,29 @@ tells text out rest (Ok w) e = measured text w.parts w.notes w.at out rest e
 tells text out rest (Err r) e = refusal_is (read_text text) (number_of r) (line_of r) (figure_of r) out e
 
 -- ---- the answers, with all that the contract says of them
-
--- what holds of an answer's numbers: questions 8 and 17
-abbrev pub Stopped : List ℕ → ℕ × ℕ × ℕ → Type 0
-Stopped text answer = Question8 text answer × Question17 text answer
-
-stopped : (text old : List ℕ) {answer : ℕ × ℕ × ℕ} → answer ≡ answer_of text old → Stopped text answer
-stopped text old e = subst (Stopped text) (sym e) (question_8 text old, question_17 text old)
-
 abbrev pub Answers : List ℕ → List ℕ → List ℕ → Result ℕ Refusal → Type 0
-Answers text old now-out r =
-    (numbers_of r ≡ answer_of text old)
-    × ((now-out ≡ buffer_of text old)
-    × (((n : ℕ) → r ≡ Ok n → (n ≤ length old) × Played text now-out) × (((f : ℕ) → r ≡ Err (ShortBuffer f) → f < 2 ^ 32) × Stopped text (numbers_of r))))
+Answers text old now-out r = record {
+  answer : numbers_of r ≡ answer_of text old;
+  buffer : now-out ≡ buffer_of text old;
+  fits : (n : ℕ) → r ≡ Ok n → n ≤ length old;
+  played : (n : ℕ) → r ≡ Ok n → Played text now-out;
+  needed : (f : ℕ) → r ≡ Err (ShortBuffer f) → f < 2 ^ 32;
+  stopped : Question8 text (numbers_of r);
+  joined : Question17 text (numbers_of r);
+}
 
 pub answers_refused : (text old : List ℕ) (r : Refusal) → read_text text ≡ refusal (number_of r) (line_of r) (figure_of r) → Answers text old old (Err r)
 answers_refused text old r e =
-    let a = answers_refusal text old (number_of r) (line_of r) (figure_of r) e in (
-      sym a.0,
-      (
-        sym a.1,
-        (
-          λ (k : ℕ) q. clash cc,
-          (λ (g : ℕ) q. absurd (refusal_not_13 text (number_of r) (line_of r) (figure_of r) e (is_13 q)), stopped text old (sym a.0)),
-        ),
-      ),
-    )
+    let a = answers_refusal text old (number_of r) (line_of r) (figure_of r) e in
+    record {
+      answer = sym a.0;
+      buffer = sym a.1;
+      fits = λ (k : ℕ) q. clash cc;
+      played = λ (k : ℕ) q. clash cc;
+      needed = λ (g : ℕ) q. absurd (refusal_not_13 text (number_of r) (line_of r) (figure_of r) e (is_13 q));
+      stopped = subst (Question8 text) a.0 (question_8 text old);
+      joined = subst (Question17 text) a.0 (question_17 text old);
+    }
   where
     is_13 : {g : ℕ} → ◌≡◌ {A = Result ℕ Refusal} (Err r) (Err (ShortBuffer g)) → number_of r ≡ 13
     is_13 {g} q = let z : r ≡ ShortBuffer g = cc in ap number_of z
@@ -190,29 +187,28 @@ answers_refused text old r e =
 pub answers_short : {text : List ℕ} {parts notes at : ℕ} (old : List ℕ) → Measured text parts notes at → length old < 16 + at
     → Answers text old old (Err (ShortBuffer (16 + at)))
 answers_short {text} {parts} {notes} {at} old m h =
-    let a = answers_13 old m h in (
-      sym a.0,
-      (
-        sym a.1,
-        (
-          λ (k : ℕ) q. clash cc,
-          (λ (g : ℕ) q. let z : 16 + at ≡ g = cc in omega (arith, measured_long m), stopped text old (sym a.0)),
-        ),
-      ),
-    )
+    let a = answers_13 old m h in
+    record {
+      answer = sym a.0;
+      buffer = sym a.1;
+      fits = λ (k : ℕ) q. clash cc;
+      played = λ (k : ℕ) q. clash cc;
+      needed = λ (g : ℕ) q. let z : 16 + at ≡ g = cc in omega (arith, measured_long m);
+      stopped = subst (Question8 text) a.0 (question_8 text old);
+      joined = subst (Question17 text) a.0 (question_17 text old);
+    }
 
 pub answers_written : {text : List ℕ} {parts notes at : ℕ} (old : List ℕ) → ((i : ℕ) → get_or text i 0 < 2 ^ 8) → Measured text parts notes at → 16 + at ≤ length old
     → {now-out : List ℕ} → now-out ≡ buffer_of text old → Answers text old now-out (Ok (16 + at))
-answers_written {text} {parts} {notes} {at} old bytes m h {now-out} e = (
-  sym (answers_sheet old m h),
-  (
-    e,
-    (
-      λ (k : ℕ) q. let z : 16 + at ≡ k = cc in (omega arith, subst (Played text) (sym e) (played text old bytes parts notes m.records m.is (omega (arith, m.size)))),
-      (λ (g : ℕ) q. clash cc, stopped text old (sym (answers_sheet old m h))),
-    ),
-  ),
-)
+answers_written {text} {parts} {notes} {at} old bytes m h {now-out} e = record {
+  answer = sym (answers_sheet old m h);
+  buffer = e;
+  fits = λ (k : ℕ) q. let z : 16 + at ≡ k = cc in omega arith;
+  played = λ (k : ℕ) q. subst (Played text) (sym e) (played text old bytes parts notes m.records m.is (omega (arith, m.size)));
+  needed = λ (g : ℕ) q. clash cc;
+  stopped = subst (Question8 text) (answers_sheet old m h) (question_8 text old);
+  joined = subst (Question17 text) (answers_sheet old m h) (question_17 text old);
+}
 
 -- by the case that the first reading's answer is
 pub told_written : (text : List ℕ) (f : Result Written Refusal) → Tells f text → {w : Written} → f ≡ Ok w → Measured text w.parts w.notes w.at

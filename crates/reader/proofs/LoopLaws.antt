@@ -60,14 +60,6 @@ reading_first {text} {out} {row} {parts} = record {
   counted = omega arith;
 }
 
--- the line's ends, by where the next one begins
-inside_of : (text : List ℕ) {from next : ℕ} → from ≤ length text → next ≡ piece_end 10 text from + 1 → (from ≤ next - 1) × (next - 1 ≤ length text)
-inside_of text {from} {next} on moved = let at : Piece 10 text from (next - 1) = piece_at_lem on (omega arith) in (at.low, at.high)
-
--- the next line is nearer to the end
-pub nearer : (text : List ℕ) {from next : ℕ} → from ≤ length text → next ≡ piece_end 10 text from + 1 → length text + 1 - next < length text + 1 - from
-nearer text {from} {next} on moved = let in_line = inside_of text on moved in omega (arith, in_line.0, in_line.1)
-
 -- a step that goes on
 goes_is : {st : State} {at : ℕ} {out : List ℕ} (s : Step) (old : List ℕ) (place : ℕ) → going st at out ≡ landed s old place → (r : Result) × (s ≡ goes r) × (r.state ≡ st)
 goes_is (refused-step n l f) old place e = clash cc
@@ -253,6 +245,3 @@ module _ {text out₀ row : List ℕ} {parts : List Part} {out : List ℕ} {from
     pub passed_here : is_passed kind ≡ true → Reading text out₀ row parts out at' line' begun t
     passed_here p =
         goes_here (Ok (Goes t)) row parts out (passed_told begun n offset bytes out row parts t kind is-kind p) t refl inv.parts_few refl (passed_begun begun kind p)
-
-  pub at_end : (t.parts ≤ 256) × (t.bars ≤ 100000)
-  at_end = (inv.parts_few, steady.bars_few)

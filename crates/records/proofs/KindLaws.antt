@@ -31,10 +31,6 @@ use Rattle.state.specs.Counts.{with_active}
 use Rattle.records.proofs.RepairLaws.{filled_with, star_tokens, bar_tokens, data_tokens}
 use Rattle.records.proofs.OutcomeLaws.{kept_row, quiet_told}
 
-pub kept_few : (t : Tally) (s : Result Tally Refusal) → t.parts ≤ 256 → Kept t s → Few s
-kept_few t (Ok u) h k = omega (arith, k.parts)
-kept_few t (Err r) h k = tt
-
 -- filled as each kind is
 filled_stars : (n : ℕ) (ts : List (List ℕ)) → filled n ts ≡ filled_with (ascii "*") n ts
 unfolding filled
@@ -89,16 +85,6 @@ module _ (parts : List Part) {row : List ℕ} {t : Tally} (u : Under row t) (lin
         so
         ∙ ap (λ (l : List (List ℕ)). landed (read_star number (placed offset l) (state_of cells parts t)) out t.at) (star_filled (sym is ∙ k))
         ∙ ap comes (sym k)
-
-    pub by_bar : kind ≡ Bar
-        → told_row s row' parts' out' ≡ landed (goes (read_bar (placed offset (repaired t.active ts)) (state_of cells parts t))) out t.at
-        → told_row s row' parts' out' ≡ comes kind
-    by_bar k so = so ∙ ap comes (sym k)
-
-    pub by_data : kind ≡ Data
-        → told_row s row' parts' out' ≡ landed (read_data number (placed offset (repaired t.active ts)) (state_of cells parts t)) out t.at
-        → told_row s row' parts' out' ≡ comes kind
-    by_data k so = so ∙ ap comes (sym k)
 
   -- a kind that is no record
   module _ (out : List ℕ) (number offset : ℕ) (kind : Kind) where

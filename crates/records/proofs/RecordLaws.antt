@@ -47,9 +47,6 @@ under_same {row} {t} {u} s h = record {
   long = subst (λ (n : ℕ). length (take n row) ≡ n) (sym s.active) h.long;
 }
 
-pub even_same : {t u : Tally} {r : Repair} {found : Repaired} (line : List ℕ) → Same t u → found ≡ repaired_of t.active (tokens_of line) → found ≡ Ok r → Evenly u.active line
-even_same {t} {u} {r} line s e is = (r, ap (λ (n : ℕ). repaired_of n (tokens_of line)) s.active ∙ sym e ∙ is)
-
 module _ (parts : List Part) {row : List ℕ} {t : Tally} (h : Under row t) (line out : List ℕ) (number offset : ℕ) where
   abbrev cells : List ℕ
   cells = take t.active row
@@ -105,17 +102,8 @@ module _ (parts : List Part) {row : List ℕ} {t : Tally} (h : Under row t) (lin
         (ap (λ (y : Step). landed y out t.at)
         (by_found ∙ ap (λ (y : Repaired). by_repair y number offset line (placed offset (repaired t.active (tokens_of line))) st) e))
 
--- ---- the header, or a record behind it
+-- ---- by the line's kind
 module _ (begun : Bool) (x : Landed) (line out cells : List ℕ) (parts : List Part) (t : Tally) (number offset : ℕ) where
-  pub behind_header : begun ≡ true → x ≡ landed (on_row (row_of cells) number offset line (state_of cells parts t)) out t.at
-      → x ≡ landed (on_record begun number offset line (state_of cells parts t)) out t.at
-  behind_header b so = so ∙ ap (λ (y : Bool). landed (on_record y number offset line (state_of cells parts t)) out t.at) (sym b)
-
-  pub at_header : begun ≡ false → x ≡ landed (read_header number offset line (state_of cells parts t)) out t.at
-      → x ≡ landed (on_record begun number offset line (state_of cells parts t)) out t.at
-  at_header b so = so ∙ ap (λ (y : Bool). landed (on_record y number offset line (state_of cells parts t)) out t.at) (sym b)
-
-  -- ---- by the line's kind
   module _ {kind : Kind} (is-kind : kind ≡ kind_of line) where
     by_kind_lem : (k : Kind) → kind ≡ k → read_line begun number offset line (state_of cells parts t) ≡ by_line k begun number offset line (state_of cells parts t)
     unfolding read_line

@@ -258,16 +258,9 @@ filling_none text n = go (read_text text) n
     go (refusal m k q) n = by (eqb m 8) m k q refl n
     go (accepted parts notes rs) n = refl
 
--- ---- what the reader promises, and the list beside it
-abbrev Promised : List ℕ → List ℕ → List ℕ → Answered ℕ Refusal → Type 0
-Promised text old new r =
-    (numbers_of r ≡ answer_of text old)
-    × ((new ≡ buffer_of text old)
-    × (((n : ℕ) → r ≡ Ok n → Played text new) × (((f : ℕ) → r ≡ Err (ShortBuffer f) → f < 2 ^ 32) × (Question8 text (numbers_of r) × Question17 text (numbers_of r)))))
-
-abbrev Explains : List ℕ → List ℕ → List ℕ → Answered ℕ Refusal → Holders → Type 0
-Explains text old new r held =
-    Promised text old new r × ((listed held ≡ filling_of text) × ((k q : ℕ) → r ≡ Err (StaffFull k q) → Five (listed held)))
+-- ---- the list beside the answer
+abbrev Explains : List ℕ → Answered ℕ Refusal → Holders → Type 0
+Explains text r held = (listed held ≡ filling_of text) × ((k q : ℕ) → r ≡ Err (StaffFull k q) → Five (listed held))
 
 -- question 8 is that of a full staff alone
 pub eight : (r : Refusal) → number_of r ≡ 8 → (k : ℕ) × ((q : ℕ) × (r ≡ StaffFull k q))
@@ -291,31 +284,31 @@ text_other : (text old : List ℕ) (a : ℕ × ℕ × ℕ) → a ≡ answer_of t
 unfolding answer_of
 text_other text old a e n k q is = n (ap (λ (x : ℕ × ℕ × ℕ). x.0) (e ∙ ap (λ (x : Answer). answered x (length old)) is))
 
-module _ (text old new : List ℕ) {r : Answered ℕ Refusal} (p : Promised text old new r) where
+module _ (text old : List ℕ) {r : Answered ℕ Refusal} (p : numbers_of r ≡ answer_of text old) where
   full : {k q : ℕ} → r ≡ Err (StaffFull k q) → Filled text k q
-  full {k} {q} is = filled text k q (from_answer text old 8 k q (inl refl) (sym p.0 ∙ ap numbers_of is))
+  full {k} {q} is = filled text k q (from_answer text old 8 k q (inl refl) (sym p ∙ ap numbers_of is))
 
   -- a text that isn't refused with 8
   other : ((k q : ℕ) → r ≡ Err (StaffFull k q) → ⊥) → (a : Answered ℕ Refusal) → r ≡ a → (numbers_of a).0 ≡ 8 → ⊥
   other n (Ok m) is e = omega arith
   other n (Err f) is e = let x = eight f e in n x.0 x.1.0 (is ∙ ap Err x.1.1)
 
-  explains_none : (held : Holders) → ((k q : ℕ) → r ≡ Err (StaffFull k q) → ⊥) → listed held ≡ [] → Explains text old new r held
-  explains_none held n w = (p, (w ∙ sym (filling_none text (text_other text old (numbers_of r) p.0 (other n r refl))), λ k q x. absurd (n k q x)))
+  explains_none : (held : Holders) → ((k q : ℕ) → r ≡ Err (StaffFull k q) → ⊥) → listed held ≡ [] → Explains text r held
+  explains_none held n w = (w ∙ sym (filling_none text (text_other text old (numbers_of r) p (other n r refl))), λ k q x. absurd (n k q x))
 
-  pub explains_accepted : {n : ℕ} (held : Holders) → r ≡ Ok n → listed held ≡ [] → Explains text old new r held
+  pub explains_accepted : {n : ℕ} (held : Holders) → r ≡ Ok n → listed held ≡ [] → Explains text r held
   explains_accepted {n} held is e = explains_none held (λ k q x. clash (let y : Ok n ≡ Err (StaffFull k q) = sym is ∙ x in cc)) e
 
   pub explains_refused : {f : Refusal} (held : Holders) → r ≡ Err f → ((k q : ℕ) → f ≡ StaffFull k q → listed held ≡ walked_at text k q)
-      → (((k q : ℕ) → f ≡ StaffFull k q → ⊥) → listed held ≡ []) → Explains text old new (Err f) held
-  explains_refused {f} held is w n = subst (λ (a : Answered ℕ Refusal). Explains text old new a held) is (go (eqb (number_of f) 8) refl)
+      → (((k q : ℕ) → f ≡ StaffFull k q → ⊥) → listed held ≡ []) → Explains text (Err f) held
+  explains_refused {f} held is w n = subst (λ (a : Answered ℕ Refusal). Explains text a held) is (go (eqb (number_of f) 8) refl)
     where
-      go : (b : Bool) → eqb (number_of f) 8 ≡ b → Explains text old new r held
+      go : (b : Bool) → eqb (number_of f) 8 ≡ b → Explains text r held
       go true e =
           let x = eight f (eqb-true (number_of f) 8 e) in
           let t : Filled text x.0 x.1.0 = full (is ∙ ap Err x.1.1) in
           let same : listed held ≡ filling_of text = w x.0 x.1.0 x.1.1 ∙ t.same in
-          (p, (same, λ k q y. rw same t.five))
+          (same, λ k q y. rw same t.five)
       go false e =
           let no : (k q : ℕ) → f ≡ StaffFull k q → ⊥ = λ k q y. false≢true (sym e ∙ ap (λ (g : Refusal). eqb (number_of g) 8) y) in
           explains_none held (λ k q y. no k q (let z : Err f ≡ Err (StaffFull k q) = sym is ∙ y in cc)) (n no)

@@ -67,9 +67,6 @@ module _ (line : List ℕ) {n : ℕ} (count : n ≡ length (tokens_of line)) whe
   unfolding row_of
   headed_wide l = (rw (lt-ltb 256 (length (tokens_of line)) (omega arith)), omega arith)
 
-  pub headed_row : (cells : List ℕ) → n ≤ 256 → row_of (take (length (tokens_of line)) cells) ≡ header_row (map is_kern (tokens_of line)) → (row_of (take n cells) ≡ headed_by line) × (n ≤ 256)
-  headed_row cells l e = (rw (le-ltb 256 (length (tokens_of line)) (omega arith), count) e, l)
-
 -- ---- the lines of a text, as the library's `split` gives them
 pub YieldsList-from_lines : {F : Type 0} {s : _} (g : Mut F (Bor ℕ × Unit {0}) Bool) {f : F} (text : List ℕ) → split_rest s ≡ text → split_done s ≡ false
     → split_callee s ≡ f → ((x : ℕ) (b : Bool) (q : F) → CalledAt g f x b q → (q ≡ f) × (b ≡ eqb x 10)) → YieldsList (split_steps g) (λ x. x.now) s (lines_of text)

@@ -39,14 +39,6 @@ exchange_here low piece p q = q ∙ ap is_exchange p ∙ sym (ap (λ (ts : List 
 
 -- ---- with the one to its right
 
-and-false : (x y : Bool) → (x && y && false) ≡ false
-and-false true true = refl
-and-false true false = refl
-and-false false y = refl
-
-pub right_left : (ps : List PathToken) {left : Bool} → left ≡ true → false ≡ (is_exchange (token_at ps 0) && is_exchange (token_at ps 1) && not left)
-right_left ps e = sym (rw e (and-false (is_exchange (token_at ps 0)) (is_exchange (token_at ps 1))))
-
 pub right_not : (ps : List PathToken) (left : Bool) {x : Bool} → x ≡ is_exchange (token_at ps 0) → x ≡ false
     → false ≡ (is_exchange (token_at ps 0) && is_exchange (token_at ps 1) && not left)
 right_not ps left p q = sym (rw (sym p ∙ q))

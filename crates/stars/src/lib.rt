@@ -120,6 +120,7 @@ fn read_column(
 }
 
 // Whether the token from `from` to `end`, where n are still wanted, exchanges with the one to its right: `left` says whether it does with the one to its left.
+#[tactic(auto, using(lines::proofs::PieceLaws::piece_at_lem))]
 fn exchanges_right(line: &[u8], from: usize, end: usize, n: usize, left: bool) -> bool
     requires { (0 < n) × ((from ≤ length line.now) × (end ≡ piece_end 9 line.now from)) }
     ensures { result ≡ (is_exchange (token_at (path_tokens n (pieces 9 from line.now)) 0) && is_exchange (token_at (path_tokens n (pieces 9 from line.now)) 1) && not left) }

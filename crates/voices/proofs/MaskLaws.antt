@@ -9,7 +9,7 @@ use mathlib.Core.Option.{none, some}
 use lib.Dec.{eqb, eqb→eq}
 use lib.Bits.{bit_or, or_shr, or_step}
 use lib.ListN.{length, get_or, take, set, length-set}
-use lib.Seq.{get_or-set_same, get_or-set_other, take_all}
+use lib.Seq.{get_or-set_same, get_or-set_other}
 use borrow.Author.Tests.{eq-eqb, ne_eqb}
 use Rattle.slices.specs.Finite.{all, below}
 use Rattle.slices.proofs.TestLaws.{clash}
@@ -96,36 +96,10 @@ module _ (held : ℕ → Bool) where
 
 -- ---- the masks of a row's parts, cleared
 
-put_zero : (l : List ℕ) (q : ℕ) → get_or (set l q 0) q 0 ≡ 0
-put_zero [] q = refl
-put_zero (x ∷ l) zero = refl
-put_zero (x ∷ l) (suc q) = put_zero l q
-
-keep_zero : (l : List ℕ) (q k : ℕ) → get_or l k 0 ≡ 0 → get_or (set l q 0) k 0 ≡ 0
-keep_zero [] q k e = e
-keep_zero (x ∷ l) zero zero e = refl
-keep_zero (x ∷ l) zero (suc k) e = e
-keep_zero (x ∷ l) (suc q) zero e = e
-keep_zero (x ∷ l) (suc q) (suc k) e = keep_zero l q k e
-
 pub record Clearing (cells masks : List ℕ) (size i : ℕ) : Type 0 where
   pub high : i ≤ length cells
   pub kept : length masks ≡ size
   pub clear : (j : ℕ) → j < i → get_or masks (get_or cells j 0 / 8) 0 ≡ 0
-
-pub clearing_first : {cells masks : List ℕ} → Clearing cells masks (length masks) 0
-clearing_first = record { high = omega arith; kept = refl; clear = λ j h. absurd (omega arith) }
-
-module _ {cells masks : List ℕ} {size i : ℕ} (inv : Clearing cells masks size i) where
-  pub clearing_turn : {q : ℕ} → i < length cells → q ≡ get_or cells i 0 / 8 → Clearing cells (set masks q 0) size (i + 1)
-  clearing_turn {q} h e = record { high = omega arith; kept = simp length-set inv.kept; clear = λ j l. go j l (ℕ_discrete j i) }
-    where
-      go : (j : ℕ) → j < i + 1 → Dec (j ≡ i) → get_or (set masks q 0) (get_or cells j 0 / 8) 0 ≡ 0
-      go j l (yes same) = rw (same, ← e) (put_zero masks q)
-      go j l (no other) = keep_zero masks q (get_or cells j 0 / 8) (inv.clear j (omega arith))
-
-  pub clearing_past : length cells ≤ i → Cleared cells masks
-  clearing_past h = record { clear = λ j l. inv.clear j (omega arith) }
 
 -- ---- and filled in
 
@@ -184,6 +158,3 @@ module _ {cells masks : List ℕ} {size i : ℕ} (inv : Marking cells masks size
         kept = simp length-set inv.kept;
         account = rw at (account_by (account_voice r inv.account (omega (arith, at, inv.kept)) (rw at at told)) (λ p w. sym (holds_line (row_of (take i cells)) r v p w) ∙ more (Line r v) is p w));
       }
-
-pub marking_past : {cells masks : List ℕ} {size i : ℕ} → Marking cells masks size i → length cells ≤ i → Account cells masks (holds (row_of cells))
-marking_past {cells} {masks} {size} {i} inv h = account_by inv.account (λ p v. ap (λ (l : List ℕ). holds (row_of l) p v) (take_all i cells h))

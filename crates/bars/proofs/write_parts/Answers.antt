@@ -2,7 +2,7 @@
 use Rattle.std.proofs.lemmas.Iterator.Adapters.{YieldsList-from_rev_slice}
 use Rattle.std.proofs.lemmas.Iterator.Consumers.{YieldsList-end}
 use Rattle.reading.specs.Text.{part_record}
-use Rattle.bars.proofs.LoopLaws.{laid_none, given_turn, given_past}
+use Rattle.bars.proofs.LoopLaws.{laid_none, given_turn}
 use Rattle.bars.proofs.write_parts.Goals as goal
 
 pub loop-part-init : goal.loop-part-init
@@ -10,7 +10,3 @@ loop-part-init c = laid_none c.args.out.now c.args.at
 
 pub loop-part-preserved : goal.loop-part-preserved
 loop-part-preserved c = given_turn part_record c.loop-part.yielded c.in-Some.part c.part_of.ensures c.loop-part.invariant c.write-k.ensures
-
-pub returns : goal.returns
-returns c = let all = YieldsList-end (YieldsList-from_rev_slice c.args.parts.now cc) c.loop-part.yielded _ c.loop-part.yielded_by _ _ c.in-None.is c.next.ensures.steps in
-    given_past part_record c.loop-part.yielded all.0 c.loop-part.invariant

@@ -1,29 +1,10 @@
 -- By what the key names; the pieces of a record stand inside its line.
 use mathlib.Core.Path.{refl, sym, subst}
 use mathlib.Core.List.{[]}
-use native.Mathlib.Omega.{arith}
 use Rattle.state.specs.Counts.{Same}
 use Rattle.writing.proofs.KeptLaws.{kept_same}
-use Rattle.header.proofs.HeaderLaws.{value_low, key_low, title_told, composer_told, lyricist_told, other_key_told}
+use Rattle.header.proofs.HeaderLaws.{title_told, composer_told, lyricist_told, other_key_told}
 use Rattle.header.proofs.read_reference.Goals as goal
-
-pub overflow_cast-r : goal.overflow_cast-r
-overflow_cast-r c = let v = value_low c.args.line.bytes.now _ c.reference_of-r.result c.args.line.offset c.tail.ensures c.reference_of-r.ensures c.args.line.short in omega arith
-
-pub overflow_add-from-2 : goal.overflow_add-from-2
-overflow_add-from-2 c = let v = value_low c.args.line.bytes.now _ c.reference_of-r.result c.args.line.offset c.tail.ensures c.reference_of-r.ensures c.args.line.short in omega arith
-
-pub overflow_cast-r-2 : goal.overflow_cast-r-2
-overflow_cast-r-2 c = let v = value_low c.args.line.bytes.now _ c.reference_of-r.result c.args.line.offset c.tail.ensures c.reference_of-r.ensures c.args.line.short in omega arith
-
-pub overflow_cast-r-in-Other : goal.overflow_cast-r-in-Other
-overflow_cast-r-in-Other c = let v = key_low c.args.line.bytes.now _ c.reference_of-r.result c.args.line.offset c.tail.ensures c.reference_of-r.ensures c.args.line.short in omega arith
-
-pub overflow_add-from-in-Other : goal.overflow_add-from-in-Other
-overflow_add-from-in-Other c = let v = key_low c.args.line.bytes.now _ c.reference_of-r.result c.args.line.offset c.tail.ensures c.reference_of-r.ensures c.args.line.short in omega arith
-
-pub overflow_cast-r-in-Other-2 : goal.overflow_cast-r-in-Other-2
-overflow_cast-r-in-Other-2 c = let v = key_low c.args.line.bytes.now _ c.reference_of-r.result c.args.line.offset c.tail.ensures c.reference_of-r.ensures c.args.line.short in omega arith
 
 pub returns-in-Title : goal.returns-in-Title
 returns-in-Title c = record { told = λ cells parts. title_told c.args.line.bytes.now _ c.reference_of-r.result c.args.line.number c.args.line.offset c.args.tally c.tail.ensures c.reference_of-r.ensures c.span_of-value.result c.span_of-value.ensures cells parts c.args.out.now c.in-Title.is; same = record { active = refl; parts = refl; bars = refl } }

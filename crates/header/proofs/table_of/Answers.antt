@@ -1,34 +1,30 @@
 -- The spines written, and the columns of the tokens left, make the first row.
 use Rattle.std.proofs.Common.{◌∙◌, sym, subst, ℕ, ◌+◌, set, Some, length-append, rules, tests, arith}
-use Rattle.std.proofs.lemmas.Iterator.Consumers.{YieldsList-from_enumerate, YieldsList-turn, YieldsList-end}
-use Rattle.std.proofs.lemmas.List.FromFn.{length-enumerate_from}
 use Rattle.lines.specs.Tokens.{tokens_of}
-use Rattle.lines.proofs.ChainLaws.{YieldsList-from_tokens}
-use Rattle.header.proofs.ColumnLaws.{Filling, token_turn, filling_first, filling_kern, filling_other, filling_past}
+use Rattle.header.proofs.ColumnLaws.{Filling, numbered_turn, numbered_end, filling_first, filling_kern, filling_other, filling_past}
 use Rattle.header.proofs.table_of.Goals as goal
 
 pub loop-i-init : goal.loop-i-init
 loop-i-init c = filling_first (tokens_of c.args.line.now)
 
 pub overflow_cast-spines : goal.overflow_cast-spines
-overflow_cast-spines c = let t = token_turn (tokens_of c.args.line.now) (YieldsList-turn (YieldsList-from_enumerate (YieldsList-from_tokens _ c.args.line.now (cc) (cc) (cc) (λ x b q k. search (rules, tests))) (cc)) c.loop-i.yielded _ c.loop-i.yielded_by _ _ (c.in-Some.i, c.in-Some.token) c.in-Some.is c.next.ensures.steps) in omega (arith, t.0, c.requires, c.loop-i.invariant.low)
+overflow_cast-spines c = let t = numbered_turn _ _ c.args.line.now (search (rules, tests)) c.loop-i.yielded _ _ c.loop-i.yielded_by _ c.next.ensures.steps c.in-Some.is in omega (arith, t.0, c.requires, c.loop-i.invariant.low)
 
 pub offset_bounds-spines-i : goal.offset_bounds-spines-i
-offset_bounds-spines-i c = let t = token_turn (tokens_of c.args.line.now) (YieldsList-turn (YieldsList-from_enumerate (YieldsList-from_tokens _ c.args.line.now (cc) (cc) (cc) (λ x b q k. search (rules, tests))) (cc)) c.loop-i.yielded _ c.loop-i.yielded_by _ _ (c.in-Some.i, c.in-Some.token) c.in-Some.is c.next.ensures.steps) in omega (arith, t.0, t.1.0, c.requires)
+offset_bounds-spines-i c = let t = numbered_turn _ _ c.args.line.now (search (rules, tests)) c.loop-i.yielded _ _ c.loop-i.yielded_by _ c.next.ensures.steps c.in-Some.is in omega (arith, t.0, t.1.0, c.requires)
 
 pub bounds-spines-i : goal.bounds-spines-i
-bounds-spines-i c = let t = token_turn (tokens_of c.args.line.now) (YieldsList-turn (YieldsList-from_enumerate (YieldsList-from_tokens _ c.args.line.now (cc) (cc) (cc) (λ x b q k. search (rules, tests))) (cc)) c.loop-i.yielded _ c.loop-i.yielded_by _ _ (c.in-Some.i, c.in-Some.token) c.in-Some.is c.next.ensures.steps) in omega (arith, t.0, t.1.0, c.requires)
+bounds-spines-i c = let t = numbered_turn _ _ c.args.line.now (search (rules, tests)) c.loop-i.yielded _ _ c.loop-i.yielded_by _ c.next.ensures.steps c.in-Some.is in omega (arith, t.0, t.1.0, c.requires)
 
 pub loop-i-preserved-then-is_kern : goal.loop-i-preserved-then-is_kern
-loop-i-preserved-then-is_kern c = let t = token_turn (tokens_of c.args.line.now) (YieldsList-turn (YieldsList-from_enumerate (YieldsList-from_tokens _ c.args.line.now (cc) (cc) (cc) (λ x b q k. search (rules, tests))) (cc)) c.loop-i.yielded _ c.loop-i.yielded_by _ _ (c.in-Some.i, c.in-Some.token) c.in-Some.is c.next.ensures.steps) in
+loop-i-preserved-then-is_kern c = let t = numbered_turn _ _ c.args.line.now (search (rules, tests)) c.loop-i.yielded _ _ c.loop-i.yielded_by _ c.next.ensures.steps c.in-Some.is in
     subst (λ (n : ℕ). Filling (tokens_of c.args.line.now) (set c.loop-i.spines c.in-Some.i (Some (record { part = c.loop-i.parts; voice = 0 }))) n (c.loop-i.parts + 1)) (sym (length-append c.loop-i.yielded _))
     (rw t.1.0 (filling_kern c.loop-i.invariant c.requires t.0 c.in-Some.token.now t.1.1 (sym c.is_kern.ensures ∙ c.if-is_kern.true)))
 
 pub loop-i-preserved : goal.loop-i-preserved
-loop-i-preserved c = let t = token_turn (tokens_of c.args.line.now) (YieldsList-turn (YieldsList-from_enumerate (YieldsList-from_tokens _ c.args.line.now (cc) (cc) (cc) (λ x b q k. search (rules, tests))) (cc)) c.loop-i.yielded _ c.loop-i.yielded_by _ _ (c.in-Some.i, c.in-Some.token) c.in-Some.is c.next.ensures.steps) in
+loop-i-preserved c = let t = numbered_turn _ _ c.args.line.now (search (rules, tests)) c.loop-i.yielded _ _ c.loop-i.yielded_by _ c.next.ensures.steps c.in-Some.is in
     subst (λ (n : ℕ). Filling (tokens_of c.args.line.now) c.loop-i.spines n c.loop-i.parts) (sym (length-append c.loop-i.yielded _))
     (filling_other c.loop-i.invariant c.requires t.0 c.in-Some.token.now t.1.1 (sym c.is_kern.ensures ∙ c.if-is_kern.false))
 
 pub returns : goal.returns
-returns c = let all = YieldsList-end (YieldsList-from_enumerate (YieldsList-from_tokens _ c.args.line.now (cc) (cc) (cc) (λ x b q k. search (rules, tests))) (cc)) c.loop-i.yielded _ c.loop-i.yielded_by _ _ c.in-None.is c.next.ensures.steps in
-    filling_past c.loop-i.invariant (all.1 ∙ length-enumerate_from 0 (tokens_of c.args.line.now))
+returns c = filling_past c.loop-i.invariant (numbered_end _ _ c.args.line.now (search (rules, tests)) c.loop-i.yielded _ _ c.loop-i.yielded_by _ c.next.ensures.steps c.in-None.is)

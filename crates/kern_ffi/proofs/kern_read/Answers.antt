@@ -7,13 +7,4 @@ use Rattle.kern_ffi.proofs.kern_read.Goals as goal
 pub returns : goal.returns
 returns c =
     let e = c.read-said.ensures in
-    let a = answers c.args.text.now c.args.out.now _ _ (λ (i : ℕ). omega (arith, c.type_inv.text i)) e.answer c.put_answer.ensures.number c.put_answer.ensures.answer e.buffer (e.stopped, e.joined) in
-    record {
-      number = a.0;
-      answer = a.1.0;
-      buffer = a.1.1.0;
-      played = a.1.1.1.0;
-      needed = a.1.1.1.1.0;
-      stopped = a.1.1.1.1.1.0;
-      joined = a.1.1.1.1.1.1;
-    }
+    answers c.args.text.now c.args.out.now _ _ (λ (i : ℕ). omega (arith, c.type_inv.text i)) e.answer c.put_answer.ensures.number c.put_answer.ensures.answer e.buffer

@@ -6,60 +6,21 @@ use Rattle.reader.proofs.AnswerLaws.{answers_refused, answers_short, answers_wri
 use Rattle.reader.proofs.read.Goals as goal
 
 pub returns-then-text-gt-MOST_BYTES : goal.returns-then-text-gt-MOST_BYTES
-returns-then-text-gt-MOST_BYTES c =
-    let r = answers_refused c.args.text.now c.args.out.now (TooLong _) (too_long c.args.text.now c.if-text-gt-MOST_BYTES.true) in
-    record {
-      answer = r.0;
-      buffer = r.1.0;
-      fits = λ n e. (r.1.1.0 n e).0;
-      played = λ n e. (r.1.1.0 n e).1;
-      needed = r.1.1.1.0;
-      stopped = r.1.1.1.1.0;
-      joined = r.1.1.1.1.1;
-    }
+returns-then-text-gt-MOST_BYTES c = answers_refused c.args.text.now c.args.out.now (TooLong _) (too_long c.args.text.now c.if-text-gt-MOST_BYTES.true)
 
 pub returns-then-good-text : goal.returns-then-good-text
-returns-then-good-text c =
-    let r = answers_refused c.args.text.now c.args.out.now (NotUtf8 _) (not_utf8_at c.args.text.now c.if-text-gt-MOST_BYTES.false c.if-good-text.true c.utf8_length-good.ensures.0) in
-    record {
-      answer = r.0;
-      buffer = r.1.0;
-      fits = λ n e. (r.1.1.0 n e).0;
-      played = λ n e. (r.1.1.0 n e).1;
-      needed = r.1.1.1.0;
-      stopped = r.1.1.1.1.0;
-      joined = r.1.1.1.1.1;
-    }
+returns-then-good-text c = answers_refused c.args.text.now c.args.out.now (NotUtf8 _) (not_utf8_at c.args.text.now c.if-text-gt-MOST_BYTES.false c.if-good-text.true c.utf8_length-good.ensures.0)
 
 pub returns-in_err-written : goal.returns-in_err-written
 returns-in_err-written c =
     let p = err_from_is_err_and c.from_residual.result c.from_residual.ensures.1 in
-    let r = answers_refused c.args.text.now c.args.out.now _ (told_refused c.args.text.now c.measure.result c.measure.ensures c.in_err-written.was) in
-    rw (p.1, p.2) (record {
-      answer = r.0;
-      buffer = r.1.0;
-      fits = λ n e. (r.1.1.0 n e).0;
-      played = λ n e. (r.1.1.0 n e).1;
-      needed = r.1.1.1.0;
-      stopped = r.1.1.1.1.0;
-      joined = r.1.1.1.1.1;
-    })
+    rw (p.1, p.2) (answers_refused c.args.text.now c.args.out.now _ (told_refused c.args.text.now c.measure.result c.measure.ensures c.in_err-written.was))
 
 pub overflow_add-needed : goal.overflow_add-needed
 overflow_add-needed c = omega (arith, measured_long (told_written c.args.text.now c.measure.result c.measure.ensures c.in_ok-written.was))
 
 pub returns-then-out-needed : goal.returns-then-out-needed
-returns-then-out-needed c =
-    let r = answers_short c.args.out.now (told_written c.args.text.now c.measure.result c.measure.ensures c.in_ok-written.was) c.if-out-needed.true in
-    record {
-      answer = r.0;
-      buffer = r.1.0;
-      fits = λ n e. (r.1.1.0 n e).0;
-      played = λ n e. (r.1.1.0 n e).1;
-      needed = r.1.1.1.0;
-      stopped = r.1.1.1.1.0;
-      joined = r.1.1.1.1.1;
-    }
+returns-then-out-needed c = answers_short c.args.out.now (told_written c.args.text.now c.measure.result c.measure.ensures c.in_ok-written.was) c.if-out-needed.true
 
 pub write_sheet-requires : goal.write_sheet-requires
 write_sheet-requires c = record {
@@ -69,14 +30,4 @@ write_sheet-requires c = record {
 }
 
 pub returns : goal.returns
-returns c =
-    let r = answers_written {text = c.args.text.now} c.args.out.now (λ (i : ℕ). omega (arith, c.type_inv.text i)) (told_written c.args.text.now c.measure.result c.measure.ensures c.in_ok-written.was) c.if-out-needed.false c.write_sheet.ensures in
-    record {
-      answer = r.0;
-      buffer = r.1.0;
-      fits = λ n e. (r.1.1.0 n e).0;
-      played = λ n e. (r.1.1.0 n e).1;
-      needed = r.1.1.1.0;
-      stopped = r.1.1.1.1.0;
-      joined = r.1.1.1.1.1;
-    }
+returns c = answers_written {text = c.args.text.now} c.args.out.now (λ (i : ℕ). omega (arith, c.type_inv.text i)) (told_written c.args.text.now c.measure.result c.measure.ensures c.in_ok-written.was) c.if-out-needed.false c.write_sheet.ensures

@@ -3,14 +3,11 @@ use Rattle.std.specs.Prelude.{Bool, false, ◌||◌, Ok}
 use Rattle.std.proofs.lemmas.Result.{err_from_is_err_and}
 use lib.ListN.{take}
 use Rattle.state.specs.declared.Tally.{Tally}
-use Rattle.reader.proofs.LoopLaws.{Reading, reading_first, reading_past, nearer, passed_here, under, refused_here, ends_here, ends_small, goes_here, at_end}
+use Rattle.reader.proofs.LoopLaws.{Reading, reading_first, reading_past, passed_here, under, refused_here, ends_here, ends_small, goes_here}
 use Rattle.reader.proofs.read_lines.Goals as goal
 
 pub loop-line-init : goal.loop-line-init
 loop-line-init c = subst (λ (t : Tally). Reading c.args.text.bytes.now c.args.out.now c.args.rows.now.row c.args.parts.now c.args.out.now 0 0 false t) (sym c.no_tally-tally.ensures) reading_first
-
-pub loop-line-smaller-then-is_passed : goal.loop-line-smaller-then-is_passed
-loop-line-smaller-then-is_passed c = nearer c.args.text.bytes.now c.in-Some.ensures.taken.on c.in-Some.ensures.taken.moved
 
 pub loop-line-preserved-then-is_passed : goal.loop-line-preserved-then-is_passed
 loop-line-preserved-then-is_passed c = passed_here c.loop-line.invariant c.in-Some.ensures.taken c.in-Some.line.of_kind (sym c.is_passed.ensures ∙ c.if-is_passed.true)
@@ -29,14 +26,8 @@ finish_text-requires c = ends_small c.loop-line.invariant c.in-Some.ensures.take
 pub returns-in-Ends : goal.returns-in-Ends
 returns-in-Ends c = c.finish_text.ensures _ ∙ sym (ends_here c.loop-line.invariant c.in-Some.ensures.taken c.in-Some.line.of_kind c.read_line.result _ _ _ c.read_line.ensures.told _ (c.in_ok-last.was ∙ ap Ok c.in-Ends.is))
 
-pub loop-line-smaller : goal.loop-line-smaller
-loop-line-smaller c = nearer c.args.text.bytes.now c.in-Some.ensures.taken.on c.in-Some.ensures.taken.moved
-
 pub loop-line-preserved : goal.loop-line-preserved
 loop-line-preserved c = goes_here c.loop-line.invariant c.in-Some.ensures.taken c.in-Some.line.of_kind c.read_line.result _ _ _ c.read_line.ensures.told _ (c.in_ok-last.was ∙ ap Ok c.in-Goes.is) c.read_line.ensures.few c.read_line.auto.out (ap (λ (b : Bool). c.loop-line.begun || b) c.is_record-begun.ensures)
-
-pub finish_text-requires-2 : goal.finish_text-requires-2
-finish_text-requires-2 c = at_end c.loop-line.invariant
 
 pub returns : goal.returns
 returns c = c.finish_text-2.ensures (take c.loop-line.tally.active c.loop-line.rows.row) ∙ sym (reading_past c.loop-line.invariant c.in_default.ensures.past.0)

@@ -4,14 +4,11 @@ use native.Mathlib.Omega.{arith}
 use Rattle.state.specs.Counts.{Same}
 use Rattle.writing.proofs.KeptLaws.{kept_same}
 use Rattle.std.proofs.lemmas.Result.{err_from_is_err_and}
-use Rattle.records.proofs.RecordLaws.{under_same, even_same, none_told, uneven_told, mixed_told, even_told}
+use Rattle.records.proofs.RecordLaws.{none_told, uneven_told, mixed_told, even_told}
 use Rattle.records.proofs.read_record.Goals as goal
 
 pub returns-then-tally-eq0 : goal.returns-then-tally-eq0
 returns-then-tally-eq0 c = record { told = none_told c.args.parts.now c.requires c.args.line.bytes.now c.args.out.now c.args.line.number c.args.line.offset c.notify-noticed.result _ c.if-tally-eq0.true refl (rw c.span_of.ensures at c.notify-noticed.ensures); few = omega (arith, (subst (Same c.args.tally) (sym c.notify-noticed.ensures.1) (kept_same c.args.tally _ [])).parts, c.requires.ready.parts_few) }
-
-pub read_even-requires : goal.read_even-requires
-read_even-requires c = record { under = under_same c.notice_repair-noticed.ensures.same c.requires; even = even_same c.args.line.bytes.now c.notice_repair-noticed.ensures.same c.repair_record.ensures c.in-Ok.is }
 
 pub returns-in-Uneven : goal.returns-in-Uneven
 returns-in-Uneven c = record { told = uneven_told c.args.parts.now c.requires c.args.line.bytes.now c.args.out.now c.args.line.number c.args.line.offset c.if-tally-eq0.false c.repair_record.ensures c.in-Err.is c.in-Uneven.is; few = tt }

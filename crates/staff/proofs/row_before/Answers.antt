@@ -24,9 +24,6 @@ loop-line-preserved c =
     let n : length (c.loop-line.yielded ++ (c.in-Some.line ∷ [])) ≡ length c.loop-line.yielded + 1 = length-append c.loop-line.yielded (c.in-Some.line ∷ []) in
     rw n (walking_turn c.loop-line.invariant t.0 t.1 c.bare-line.ensures c.line_kind.ensures c.row_past-active.ensures (ap (λ (b : Bool). c.loop-line.begun || b) c.is_record-begun.ensures))
 
-pub row_past-active-requires : goal.row_past-active-requires
-row_past-active-requires c = c.loop-line.invariant.few
-
 pub returns : goal.returns
 returns c =
     let n = items_end {v = λ (y : Bor (List ℕ)). y.now} c.loop-line.yielded _ c.loop-line.yielded_by _ _ c.in-None.is c.next.ensures.steps

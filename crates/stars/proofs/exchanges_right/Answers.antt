@@ -5,23 +5,11 @@ use Rattle.paths.proofs.TokenLaws.{exchange_same}
 use Rattle.slices.specs.Split.{pieces}
 use Rattle.spines.specs.Tokens.{path_tokens}
 use Rattle.lines.proofs.PieceLaws.{piece_at_lem}
-use Rattle.stars.proofs.PairLaws.{ahead_is, exchange_here, right_left, right_not, right_is}
+use Rattle.stars.proofs.PairLaws.{ahead_is, exchange_here, right_not, right_is}
 use Rattle.stars.proofs.exchanges_right.Goals as goal
-
-pub returns-then-left : goal.returns-then-left
-returns-then-left c = right_left (path_tokens c.args.n (pieces 9 c.args.from c.args.line.now)) c.if-left.true
-
-pub slice_bounds-path_token-count : goal.slice_bounds-path_token-count
-slice_bounds-path_token-count c = omega (arith, piece_at_lem c.requires.1.0 c.requires.1.1)
-
-pub slice_bounds-path_token-start : goal.slice_bounds-path_token-start
-slice_bounds-path_token-start c = omega (arith, piece_at_lem c.requires.1.0 c.requires.1.1)
 
 pub slice_bounds-path_token-end : goal.slice_bounds-path_token-end
 slice_bounds-path_token-end c = omega (arith, piece_at_lem c.requires.1.0 c.requires.1.1)
-
-pub overflow_add-end : goal.overflow_add-end
-overflow_add-end c = omega (arith, piece_at_lem c.requires.1.0 c.requires.1.1)
 
 pub returns-then-eq : goal.returns-then-eq
 returns-then-eq c = let p = piece_at_lem c.requires.1.0 c.requires.1.1 in

@@ -13,15 +13,15 @@ use Rattle.kern_ffi.proofs.causes.kern_read_lines.Goals as goal
 pub returns : goal.returns
 returns c =
     let e = c.read_with_lines-explained.ensures in
-    let a = answers c.args.text.now c.args.out.now _ _ (λ (i : ℕ). omega (arith, c.type_inv.text i)) e.answer c.put_answer.ensures.number c.put_answer.ensures.answer e.buffer (e.stopped, e.joined) in
+    let a = answers c.args.text.now c.args.out.now _ _ (λ (i : ℕ). omega (arith, c.type_inv.text i)) e.answer c.put_answer.ensures.number c.put_answer.ensures.answer e.buffer in
     record {
-      number = a.0;
-      answer = a.1.0;
-      buffer = a.1.1.0;
-      played = a.1.1.1.0;
-      needed = a.1.1.1.1.0;
-      stopped = a.1.1.1.1.1.0;
-      joined = a.1.1.1.1.1.1;
+      number = a.number;
+      answer = a.answer;
+      buffer = a.buffer;
+      played = a.played;
+      needed = a.needed;
+      stopped = a.stopped;
+      joined = a.joined;
       lines = c.put_lines.ensures ∙ ap (λ (hs : List Holder). stored c.args.lines.now (entry_numbers hs)) (c.as_slice.ensures.all ∙ e.lines);
       filled = λ z. five_entries c.args.lines.now c.read_with_lines-explained.result.answer (sym c.put_answer.ensures.number ∙ z) e.filled c.as_slice.ensures.all c.put_lines.ensures (omega arith);
     }
