@@ -28,7 +28,6 @@ use Rattle.refusal.specs.declared.Refusal.{Refusal}
 use Rattle.std.specs.Prelude.{Ok, Err, Result}
 use Rattle.state.specs.Lay.{laid, behind}
 use Rattle.state.specs.View.{Landed, state_of, stopped, going, landed, told}
-use Rattle.state.specs.Ready.{Ready}
 use Rattle.state.proofs.ViewLaws.{landed_behind}
 use Rattle.notes.specs.Spot.{Kept}
 use Rattle.data.specs.Column.{column_step, rest}
@@ -139,14 +138,6 @@ data_first line row parts out t k offset =
 module _ {whole : Landed} {line row : List ℕ} {parts₀ : List Part} {out₀ : List ℕ} {t₀ : Tally} {k offset : ℕ} {parts : List Part} {out : List ℕ} {t : Tally} {from i : ℕ}
     (inv : Reading whole line row parts₀ out₀ t₀ k offset parts out t from i) where
   -- between two columns
-  pub data_ready : Ready row t₀ → Ready row t
-  data_ready r = record {
-    cells_long = r.cells_long;
-    parts_few = omega (arith, inv.kept.parts, r.parts_few);
-    bars_few = omega (arith, inv.kept.bars, r.bars_few);
-    within = λ j p v e. omega (arith, inv.kept.parts, r.within j p v e);
-  }
-
   pub data_past : length line < from → going (state_of row parts t) t.at out ≡ whole
   data_past h =
       quiet_step (state_of row parts t) out t.at

@@ -6,8 +6,7 @@ use native.Mathlib.Omega.{arith}
 use mathlib.Core.List.{List}
 use lib.ListN.{length, take, drop, get_or, length-drop}
 use Rattle.std.proofs.lemmas.List.{take_all, length-take-le, get_or-drop}
-use Rattle.slices.specs.Split.{pieces, piece_at}
-use Rattle.lines.specs.Tokens.{tokens_of}
+use Rattle.slices.specs.Split.{piece_at}
 use Rattle.state.specs.Counts.{Same}
 use Rattle.state.proofs.CountLaws.{same, same_same}
 use Rattle.lines.specs.Lines.{piece_end}
@@ -38,11 +37,6 @@ use Rattle.reading.specs.declared.Part.{Part}
 -- what is left before a stretch
 abbrev pub whole_rest : List ℕ → List ℕ → List Part → List ℕ → Tally → ℕ → ℕ → ℕ → ℕ → Landed
 whole_rest line row parts out t k offset from i = landed (rest line row k offset from i (state_of row parts t)) out t.at
-
-pub stretch_first : (line row : List ℕ) (parts : List Part) (out : List ℕ) (t : Tally) (k offset from i : ℕ) → i ≤ length row → pieces 9 from line ≡ drop i (tokens_of line)
-    → Reading (whole_rest line row parts out t k offset from i) line row parts out t k offset parts out (counts_at t t.notes t.at) from i
-stretch_first line row parts out t k offset from i h p =
-    record { high = h; wide = refl; kept = record { active = refl; parts = refl; bars = refl }; here = p; same = refl }
 
 module _ {whole : Landed} {line row : List ℕ} {parts₀ : List Part} {out₀ : List ℕ} {t₀ : Tally} {k offset : ℕ} {parts : List Part} {out : List ℕ} {n at from i : ℕ}
     (inv : Reading whole line row parts₀ out₀ t₀ k offset parts out (counts_at t₀ n at) from i) (h : i < length row) (low : from ≤ length line) where
@@ -96,23 +90,9 @@ module _ (row : List ℕ) (first k : ℕ) {i : ℕ} (at : i ≡ first + k) (h : 
   pub cell_inside : k < length (take (length row - first) (drop first row)) → i < length row
   cell_inside inside = omega (arith, length-take-le (length row - first) (drop first row) (omega (arith, length-drop first row)), length-drop first row)
 
--- where a stretch ends
-pub stretch_ends : {line row : List ℕ} {parts₀ : List Part} {out₀ : List ℕ} {t : Tally} {k offset from₀ i₀ : ℕ} {parts : List Part} {out : List ℕ} {from i n at : ℕ} → i₀ ≤ i
-    → Reading (whole_rest line row parts₀ out₀ t k offset from₀ i₀) line row parts₀ out₀ t k offset parts out (counts_at t n at) from i
-    → Stretched line row parts₀ out₀ t k offset from₀ i₀ parts out (record { from = from; index = i; notes = n; at = at })
-stretch_ends low inv = record { low = low; high = inv.high; here = inv.here; same = inv.same }
-
 -- ---- a stretch, and a column that is read by itself
 pub begun_kept : {t₀ t : Tally} (s : Stretch) → t ≡ with_stretch t₀ s → Same t₀ t
 begun_kept s e = rw e (record { active = refl; parts = refl; bars = refl })
-
-pub begun_ready : {row : List ℕ} {t₀ t : Tally} (s : Stretch) → Ready row t₀ → t ≡ with_stretch t₀ s → Ready row t
-begun_ready s r e = rw e (record {
-  cells_long = r.cells_long;
-  parts_few = r.parts_few;
-  bars_few = r.bars_few;
-  within = r.within;
-})
 
 -- one stretch more
 pub stretch_turn : {whole : Landed} {line row : List ℕ} {parts₀ : List Part} {out₀ : List ℕ} {t₀ : Tally} {k offset : ℕ} {parts : List Part} {out : List ℕ} {parts' : List Part} {out' : List ℕ} {u t : Tally} {from i : ℕ} {s : Stretch}

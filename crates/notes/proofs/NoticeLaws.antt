@@ -2,7 +2,7 @@
 use mathlib.Core.Path.{◌≡◌, refl, sym, ap, ◌∙◌}
 use Prim.Native.Nat.{ℕ, ◌≤◌}
 use mathlib.Core.List.{List, [], ◌∷◌}
-use mathlib.Core.Bool.{Bool, true, false}
+use mathlib.Core.Bool.{Bool, false}
 use lib.ListN.{length}
 use borrow.Author.Tests.{le-ltb}
 use Rattle.slices.proofs.TestLaws.{clash}
@@ -12,7 +12,7 @@ use Rattle.sheet.specs.declared.Notice.{Notice}
 use Rattle.sheet.specs.declared.Span.{Span}
 use Rattle.reading.specs.State.{State, Result, Step, goes}
 use Rattle.reading.specs.declared.Part.{Part}
-use Rattle.reading.specs.Notices.{span_of_token, quiet, keep, notify, notify_signifiers}
+use Rattle.reading.specs.Notices.{quiet, keep, notify, notify_signifiers}
 use Rattle.reading.specs.Notes as notes
 use Rattle.state.specs.declared.Tally.{Tally}
 use Rattle.state.specs.Lay.{laid, behind}
@@ -21,7 +21,7 @@ use Rattle.state.proofs.ViewLaws.{landed_behind}
 use Rattle.writing.specs.Kept.{notice_of, signifiers_notice, kept_records, after_kept}
 use Rattle.writing.proofs.KeptLaws.{kept_at, kept_same, kept_notes, kept_state, kept_records_lem}
 use Rattle.notes.specs.declared.Spot.{Spot}
-use Rattle.notes.specs.Spot.{token_at, Noticed, inferred_notice}
+use Rattle.notes.specs.Spot.{Noticed, inferred_notice}
 
 -- nothing is noticed
 pub noticed_none : (t : Tally) (old : List ℕ) (f : State → Result) → ((st : State) → f st ≡ quiet st) → Noticed t t old old f
@@ -77,11 +77,6 @@ signify_full t old (b ∷ bs) k j h =
 pub signify_as : (token bs : List ℕ) (k j : ℕ) → reported token ≡ bs → (length bs ≡ 0 → ⊥) → (st : State)
     → notes.signify (reported token) k j st ≡ keep (signifiers_notice k j bs) bs st
 signify_as token bs k j e h st = ap (λ (l : List ℕ). notes.signify l k j st) e ∙ signify_some bs k j h st
-
-module _ (token : List ℕ) (s : Spot) {b : Bool} {t u : Tally} {old new : List ℕ} where
-  pub inferred_yes : b ≡ true → Noticed t u old new (notify 20 s.line s.column (span_of_token (token_at s token)))
-      → Noticed t u old new (inferred_notice b token s)
-  inferred_yes e h = rw e h
 
 pub inferred_no : (token : List ℕ) (s : Spot) {b : Bool} (t : Tally) (old : List ℕ) → b ≡ false → Noticed t t old old (inferred_notice b token s)
 inferred_no token s t old e = rw e (noticed_none t old (λ (st : State). quiet st) (λ st. refl))

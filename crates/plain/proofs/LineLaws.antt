@@ -18,7 +18,7 @@ use Rattle.duration.specs.declared.Value.{Value}
 use Rattle.notation.specs.Bytes.{contains}
 use Rattle.pitch.specs.Pitch.{pitch_of}
 use Rattle.pitch.specs.declared.Pitch.{Pitch}
-use Rattle.std.specs.Prelude.{Option, Some, None, unwrap_or}
+use Rattle.std.specs.Prelude.{Option, Some, unwrap_or}
 use Rattle.std.specs.Option.{is_none}
 use Rattle.plain.specs.declared.TheConstants.{SILENT}
 use Rattle.plain.specs.Plain.{ShapeAt}
@@ -73,9 +73,6 @@ null_shape line from h e c =
     (end_is line from (from + 1) (omega arith) (omega arith) (ap (each (differs 9)) p) c, ap is_null p)
 
 -- ---- a rest, or a pitch
-pub sung_rest : (line : List ℕ) (from : ℕ) → from < length line → get_or line from 0 ≡ 114 → SungAt line from (record { tone = None; end = from + 1 })
-sung_rest line from h e = record { low = omega arith; high = omega arith; sound = piece_one line from h ∙ ap (λ (x : ℕ). x ∷ []) e }
-
 pub sung_pitch : {line : List ℕ} {from to c step octave alter end : ℕ} {p : Option Pitch} → Run (c ∷ []) line from to → Signing line to alter end
     → p ≡ pitch_of c (to - from) → p ≡ Some (record { step = step; octave = octave })
     → SungAt line from (record { tone = Some (record { step = step; octave = octave; alter = alter }); end = end })

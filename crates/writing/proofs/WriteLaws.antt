@@ -4,7 +4,7 @@ use Prim.Native.Nat.{ℕ, ◌+◌, ◌-◌, ◌*◌, ◌≤◌, ◌<◌, min}
 use native.Mathlib.Omega.{arith}
 use native.Mathlib.Nat.{zero-add, not-suc-le-zero}
 use mathlib.Core.Bool.{Bool, true, false, cond}
-use mathlib.Core.List.{List, [], ◌∷◌, ◌++◌, map, append_assoc, append-nil}
+use mathlib.Core.List.{List, [], ◌∷◌, ◌++◌, map, append_assoc}
 use lib.ListN.{length, take, drop, length-append, length-map}
 use lib.Seq.{sets}
 use borrow.Author.Tests.{lt-ltb, le-ltb}
@@ -20,7 +20,7 @@ use Rattle.reading.specs.Notes.{pitch_of_tone}
 use Rattle.pitch.specs.Pitch.{twos_complement}
 use Rattle.sheet.specs.declared.Note.{Note}
 use Rattle.sheet.specs.declared.Notice.{Notice}
-use Rattle.sheet.specs.Record.{Record, NOTICE, notice_bytes, note_bytes, pitch_bytes, pitches_bytes, record_bytes}
+use Rattle.sheet.specs.Record.{Record, NOTICE, note_bytes, pitch_bytes, pitches_bytes, record_bytes}
 use Rattle.sheet.proofs.NoteLaws.{note_length_lem, NOTE_length}
 use Rattle.state.specs.Lay.{past, stored_at, laid, behind}
 use Rattle.state.proofs.LayLaws.{laid_one, behind_one, stored_back}
@@ -33,11 +33,6 @@ pub wrote : (r : Record) (xs : List ℕ) (at : ℕ) {bytes ys : List ℕ} {k n p
     → (take k xs ++ (ys ++ drop (length xs - k) (drop k xs)) ≡ laid xs at (r ∷ [])) × (p ≡ behind at (r ∷ []))
 wrote r xs at {bytes} {ys} {k} e l m s w =
     (stored_back bytes xs ys at k m s ∙ sym (laid_one r xs at ∙ ap (λ (b : List ℕ). stored_at xs at b) e), w ∙ sym (behind_one r at ∙ ap (past at) (ap length e ∙ l)))
-
--- a NOTICE without further bytes
-pub notice_alone : (n : Notice) → record_bytes (NOTICE n []) ≡ notice_bytes n
-unfolding record_bytes
-notice_alone n = append-nil (notice_bytes n)
 
 -- the pitches that a NOTE has are those that its token's list writes
 pub tones : (ts : List Tone) → pitches_bytes (map pitch_of_tone ts) ≡ tone_bytes ts

@@ -1,7 +1,5 @@
 -- Notice 20 comes first, then the NOTE behind it.
-use mathlib.Core.Path.{ap, ◌∙◌}
 use native.Mathlib.Omega.{arith}
-use Rattle.sheet.specs.declared.Note.{Note as NoteWritten}
 use Rattle.token.proofs.FewLaws.{gives}
 use Rattle.state.specs.View.{state_of}
 use Rattle.notes.proofs.BeamLaws.{part_sounded}
@@ -13,13 +11,6 @@ note_at-note-requires c = let g = gives c.args.token.now in
     let p = c.requires in
     let k = c.notify_inferred-t.ensures.same.bars in
     ((omega (arith, g.pitches, p.1.0, p.0.short), omega (arith, g.articulations, p.1.1, p.0.short)), (omega (arith, p.0.part_in, p.0.parts_few), (p.0.voice_in, omega (arith, k, p.0.bars_few))))
-
-pub write_note-at-requires : goal.write_note-at-requires
-write_note-at-requires c = record {
-  pitches = ap (λ (x : NoteWritten). x.pitches) c.note_at-note.ensures ∙ c.requires.1.0;
-  articulations = ap (λ (x : NoteWritten). x.articulations) c.note_at-note.ensures ∙ c.requires.1.1;
-  alone = tt;
-}
 
 pub returns-then-room : goal.returns-then-room
 returns-then-room c = let same = c.notify_inferred-t.ensures.same in

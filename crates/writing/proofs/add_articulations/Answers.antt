@@ -2,11 +2,7 @@
 use native.Mathlib.Omega.{arith}
 use Rattle.slices.proofs.StoreLaws.{stored_tail}
 use Rattle.lists.specs.Lists.{articulation_bytes}
-use Rattle.writing.proofs.WriteLaws.{none_put}
 use Rattle.writing.proofs.add_articulations.Goals as goal
-
-pub returns-then-count-eq0 : goal.returns-then-count-eq0
-returns-then-count-eq0 c = none_put (articulation_bytes c.args.token.now) c.args.out.now c.args.at (omega arith)
 
 pub returns : goal.returns
 returns c = stored_tail (articulation_bytes c.args.token.now) c.args.out.now c.fill_articulations.new.out c.args.at (omega arith) c.fill_articulations.ensures
