@@ -1,7 +1,7 @@
 -- Parts asked or changed, and records laid, one after another.
-use Rattle.std.proofs.Common.{◌≡◌, ℕ, ◌+◌, ◌-◌, ◌<◌, ◌≤◌, Bool, ◌||◌, List, [], ◌∷◌, ◌++◌, map, length, get_or, take, drop, set, refl, sym, ap, ap₂, ◌∙◌, append-nil, add-one, drop_of_length-le, length-take-le, subst, Bor, arith}
+use Rattle.std.proofs.Common.{◌≡◌, ℕ, ◌+◌, ◌-◌, ◌<◌, Bool, ◌||◌, List, [], ◌∷◌, ◌++◌, map, length, get_or, take, drop, set, refl, sym, ap, ap₂, ◌∙◌, add-one, length-take-le, subst, Bor, arith}
 use Rattle.std.specs.List.{list_any}
-use Rattle.std.proofs.lemmas.List.{map-append, take_all, get_or-drop, get_or_default, get_or-append_right}
+use Rattle.std.proofs.lemmas.List.{map-append, get_or-drop, get_or_default, get_or-append_right}
 use Rattle.std.proofs.lemmas.List.Edits.{map_over_more}
 use Rattle.std.proofs.Math.Seq.{take-suc}
 use lib.ListN.{length-map}

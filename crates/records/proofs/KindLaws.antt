@@ -1,7 +1,6 @@
 -- A record by its kind: from the tokens that the code reads to those of the repaired record.
 use mathlib.Core.Path.{◌≡◌, refl, sym, ap, ◌∙◌}
-use Prim.Native.Nat.{ℕ, ◌≤◌}
-use native.Mathlib.Omega.{arith}
+use Prim.Native.Nat.{ℕ}
 use mathlib.Core.List.{List}
 use lib.ListN.{length, take}
 use Rattle.slices.specs.Ascii.{ascii}
@@ -19,8 +18,7 @@ use Rattle.reading.specs.Notes.{read_data}
 use Rattle.reading.specs.Records.{by_kind}
 use Rattle.state.specs.declared.Tally.{Tally}
 use Rattle.refusal.specs.declared.Refusal.{Refusal}
-use Rattle.std.specs.Prelude.{Ok, Err, Result, ◌⊎◌}
-use Rattle.state.specs.Ready.{Few}
+use Rattle.std.specs.Prelude.{Ok, Result, ◌⊎◌}
 use Rattle.std.proofs.Common.{inl, inr}
 use Rattle.state.specs.View.{state_of, Landed, landed, told, told_row}
 use Rattle.stars.specs.Columns.{filled}

@@ -3,7 +3,7 @@ use Rattle.std.proofs.Common.{Ok, Err}
 use mathlib.Core.Path.{◌≡◌, sym, ap, ap₂, subst, ◌∙◌}
 use Prim.Native.Nat.{ℕ, ◌≤◌}
 use native.Mathlib.Omega.{arith}
-use mathlib.Core.Bool.{Bool, true, false}
+use mathlib.Core.Bool.{Bool}
 use mathlib.Core.List.{List, []}
 use lib.ListN.{length, take}
 use Rattle.state.specs.Counts.{Same}
@@ -22,7 +22,7 @@ use Rattle.sheet.specs.Record.{span_of}
 use Rattle.reading.specs.State.{State, Step, goes}
 use Rattle.reading.specs.declared.Part.{Part}
 use Rattle.reading.specs.Notices.{placed, notify}
-use Rattle.reading.specs.Header.{read_reference, read_header}
+use Rattle.reading.specs.Header.{read_reference}
 use Rattle.reading.specs.Records.{notice_repair, by_kind, by_repair, on_row, on_record, by_line, read_line}
 use Rattle.state.specs.declared.Tally.{Tally}
 use Rattle.std.specs.Prelude.{Ok, ◌⊎◌}
@@ -32,7 +32,7 @@ use Rattle.state.specs.Lay.{laid}
 use Rattle.state.specs.View.{state_of, Landed, stopped, ending, landed, told, told_flow}
 use Rattle.writing.specs.Kept.{notice_of, kept_records, after_kept}
 use Rattle.writing.proofs.KeptLaws.{kept_same, notify_told}
-use Rattle.records.specs.Here.{Under, Evenly}
+use Rattle.records.specs.Here.{Under}
 use Rattle.records.proofs.OutcomeLaws.{landed_told, none_left, some_left, ends_told, quiet_told}
 
 -- the same counts of spines, parts and bars

@@ -1,7 +1,7 @@
 -- Where a text is refused with 8, the lines before the record are read to the row that the text says, and what fills the staff there is what the backward
 -- trace gives.
 use mathlib.Core.Path.{◌≡◌, refl, sym, ap, subst, ◌∙◌}
-use Prim.Native.Nat.{ℕ, suc, ◌+◌, ◌-◌, ◌<◌, ◌^◌}
+use Prim.Native.Nat.{ℕ, suc, ◌+◌, ◌-◌, ◌<◌}
 use native.Mathlib.Omega.{arith}
 use mathlib.Core.Bool.{Bool, true, false, cond, not, false≢true}
 use mathlib.Core.List.{List, [], ◌∷◌, ◌++◌, map}
@@ -38,8 +38,8 @@ use Rattle.reading.specs.Header.{any_kern, read_header}
 use Rattle.reading.specs.Records.{read_line, by_repair, on_row, on_record, is_record as isRecordRead}
 use Rattle.reading.specs.Notices.{placed}
 use Rattle.reading.specs.State.{State, Result, Step, refused, goes, ends, start}
-use Rattle.reading.specs.Text.{Answer, refusal, accepted, read_text, sheet_bytes, answered, answer_of, buffer_of}
-use Rattle.account.specs.Reached.{Place, where_goes, place_after, ReachedStar, later_among, Question8, Question17}
+use Rattle.reading.specs.Text.{Answer, refusal, accepted, read_text, answered, answer_of}
+use Rattle.account.specs.Reached.{Place, where_goes, place_after, ReachedStar, later_among}
 use Rattle.account.specs.Rows.{Numbered, is_record, records_from, records_of, header_in, header_of, paths_of}
 use Rattle.account.proofs.LineLaws.{record_at, records_some, other_line, record_line, same_record, Passed, passed, paths_in, Begins, begins}
 use Rattle.account.proofs.PlaceLaws.{place_line, place_start}
@@ -48,7 +48,6 @@ use Rattle.account.proofs.Question.{from_answer, refused_with_8}
 use Rattle.account.proofs.RecordLaws.{Stands}
 use Rattle.account.proofs.ResultLaws.{Adds}
 use Rattle.account.proofs.RowLaws.{Follows, follows_first, row_after, reads_on, kind_star}
-use Rattle.demand.specs.Played.{Played}
 use Rattle.reader.specs.Answer.{numbers_of}
 use Rattle.std.specs.Prelude.{Result as Answered, Ok, Err}
 use Rattle.refusal.specs.Numbers.{number_of}

@@ -19,12 +19,11 @@ use Rattle.std.proofs.lemmas.Iterator.{YieldsList}
 use Rattle.std.proofs.lemmas.Iterator.Consumers.{YieldsList-turn, YieldsList-end}
 use Rattle.std.proofs.lemmas.Iterator.Splits.{YieldsList-from_slice_split}
 use Rattle.lines.proofs.ChainLaws.{split_same}
-use borrow.Author.Tests.{lt-ltb, le-ltb}
+use borrow.Author.Tests.{lt-ltb}
 use Rattle.lines.specs.Lines.{lines_of, without_crs, kind_of}
 use Rattle.lines.specs.Tokens.{tokens_of, is_kern}
 use Rattle.lines.specs.declared.Kind.{Kind}
 use Rattle.lines.specs.declared.Kind.TheVariants.{Star}
-use Rattle.paths.specs.Text.{header_row}
 use Rattle.paths.specs.Voices.{step_row}
 use Rattle.spines.specs.Cells.{row_of}
 use Rattle.spines.specs.Tokens.{record_tokens}

@@ -1,6 +1,4 @@
 -- The PARTs of the parts so far are laid.
-use Rattle.std.proofs.lemmas.Iterator.Adapters.{YieldsList-from_rev_slice}
-use Rattle.std.proofs.lemmas.Iterator.Consumers.{YieldsList-end}
 use Rattle.reading.specs.Text.{part_record}
 use Rattle.bars.proofs.LoopLaws.{laid_none, given_turn}
 use Rattle.bars.proofs.write_parts.Goals as goal

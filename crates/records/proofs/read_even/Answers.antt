@@ -1,5 +1,3 @@
-use Rattle.std.specs.Prelude.{Ok}
-use native.Mathlib.Omega.{arith}
 use Rattle.records.proofs.KindLaws.{by_none, by_star}
 use Rattle.records.proofs.read_even.Goals as goal
 
