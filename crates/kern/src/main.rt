@@ -26,6 +26,7 @@ fn main(rt: HostRuntime) -> io::Result<()> {
 #[cfg(test)]
 mod tests {
     use super::*;
+    use refusal::Refusal;
     use std::test::Fail;
 
     // What is written for a text with empty lines behind it to so many bytes.
@@ -45,6 +46,17 @@ mod tests {
         assert_eq!(rt; written(&rt, text, 32769)?.as_slice(), b"long\n".as_slice());
         let refused = written(&rt, b"**kern\n4c\t4e\n", 32768)?;
         assert_eq!(rt; refused.as_slice(), b"6 2 2\n".as_slice());
+        Ok(())
+    }
+
+    // Question 1: one byte more than a text may have, and the lent buffer is as it was.
+    #[test]
+    fn too_long(rt: HostRuntime) -> Result<(), Fail> {
+        let text = vec![in rt.alloc(); 0u8; 67108865]?;
+        let mut out = *b"unchanged";
+        let answer = reader::read(&text, &mut out);
+        assert_eq!(rt; answer, Err(Refusal::TooLong { length: 67108865 }));
+        assert_eq!(rt; out, *b"unchanged");
         Ok(())
     }
 }
