@@ -1,6 +1,6 @@
 -- The header's tokens one by one: the table of active spines, and the first row.
 use mathlib.Core.Path.{◌≡◌, refl, sym, ap, ap₂, subst, ◌∙◌}
-use Prim.Native.Nat.{ℕ, zero, suc, ◌+◌, ◌*◌, ◌/◌, ◌%◌, ◌≤◌, ◌<◌}
+use Prim.Native.Nat.{ℕ, zero, suc, ◌+◌, ◌≤◌, ◌<◌}
 use native.Mathlib.Nat.{add-zero, zero-add}
 use native.Mathlib.Numerals.{add-one}
 use native.Mathlib.Omega.{arith}
@@ -29,25 +29,21 @@ use Rattle.spines.specs.Cells.{spine_of, row_of}
 use Rattle.spines.specs.Table.{active_at, cell_of, cells_of}
 use Rattle.std.proofs.Common.{Option, Some, None}
 use Rattle.spines.specs.declared.active.Line.{Line as ActiveLine}
-use Rattle.spines.proofs.CellLaws.{cell_outside, cell_line, row_append}
-use Rattle.spines.proofs.TableLaws.{cells_length, cells_set}
+use Rattle.spines.proofs.CellLaws.{row_append}
+use Rattle.spines.proofs.TableLaws.{cells_length, cells_set, cell_says}
 use Rattle.reading.specs.Header.{fresh_parts, any_kern}
 use Rattle.header.specs.Columns.{HeaderTable}
 
 -- ---- a column
 pub column_kern : (t : List ℕ) (p : ℕ) (a : ActiveLine) → a.part ≡ p → a.voice ≡ 0 → is_kern t ≡ true
     → (spine_of (cell_of (Some a)) ∷ [] ≡ header_from p (is_kern t ∷ [])) × (p + 1 ≡ p + length (fresh_parts p (is_kern t ∷ [])))
-unfolding header_from fresh_parts cell_of
-column_kern t p a is_part is_voice k =
-    let c = (a.part + 1) * 8 + a.voice in
-    let q : c / 8 ≡ p + 1 = omega arith in
-    let v : c % 8 ≡ 0 = omega arith in
-    rw k (ap (λ (x : Spine). x ∷ []) (cell_line c p q (omega arith) ∙ ap (Line p) v), refl)
+unfolding header_from fresh_parts
+column_kern t p a is_part is_voice k = rw k (ap (λ (x : Spine). x ∷ []) (cell_says (Some a) ∙ ap₂ Line is_part is_voice), refl)
 
 pub column_other : (t : List ℕ) (p : ℕ) → is_kern t ≡ false
     → (spine_of (cell_of None) ∷ [] ≡ header_from p (is_kern t ∷ [])) × (p ≡ p + length (fresh_parts p (is_kern t ∷ [])))
-unfolding header_from fresh_parts cell_of
-column_other t p k = rw k (ap (λ (x : Spine). x ∷ []) (cell_outside 0 refl), sym (add-zero p))
+unfolding header_from fresh_parts
+column_other t p k = rw k (ap (λ (x : Spine). x ∷ []) (cell_says None), sym (add-zero p))
 
 -- a column in front of others
 header_more : (b : Bool) (p : ℕ) (ks : List Bool) → header_from p (b ∷ ks) ≡ header_from p (b ∷ []) ++ header_from (p + length (fresh_parts p (b ∷ []))) ks

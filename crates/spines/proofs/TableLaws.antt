@@ -1,18 +1,18 @@
 -- The table of active spines: its cells, what it says of a row, and its columns.
 use mathlib.Core.Path.{◌≡◌, refl, ap, ap₂, sym, ◌∙◌}
-use Prim.Native.Nat.{ℕ, zero, suc, ◌+◌, ◌≤◌, ◌<◌}
+use Prim.Native.Nat.{ℕ, zero, suc, ◌+◌, ◌*◌, ◌%◌, ◌<◌}
 use native.Mathlib.Numerals.{add-one}
 use native.Mathlib.Omega.{arith}
 use mathlib.Core.List.{List, [], ◌∷◌, ◌++◌, map}
 use lib.ListN.{length, get_or, take, drop, set, length-map}
 use lib.Seq.{take-suc-set, drop-cons}
-use Rattle.std.proofs.Common.{Option}
+use Rattle.std.proofs.Common.{Option, Some, None}
 use Rattle.paths.specs.declared.Spine.{Spine}
 use Rattle.paths.specs.declared.Spine.TheVariants.{Line}
 use Rattle.spines.specs.Cells.{spine_of, row_of}
 use Rattle.spines.specs.declared.active.Line.{Line as ActiveLine}
 use Rattle.spines.specs.Table.{active_at, active_spine, active_row, line_of, cell_of, cells_of}
-use Rattle.spines.proofs.CellLaws.{of_line, row_take}
+use Rattle.spines.proofs.CellLaws.{cell_outside, cell_line, of_line, row_take}
 
 pub cells_length : (l : List (Option ActiveLine)) → length (cells_of l) ≡ length l
 unfolding cells_of
@@ -24,7 +24,14 @@ cells_set [] i a = refl
 cells_set (x ∷ l) zero a = refl
 cells_set (x ∷ l) (suc i) a = ap (λ (r : List ℕ). cell_of x ∷ r) (cells_set l i a)
 
--- ---- a cell's line
+-- ---- a cell's line, and a line's cell
+
+pub cell_says : (a : Option ActiveLine) → spine_of (cell_of a) ≡ active_spine a
+unfolding cell_of
+cell_says None = cell_outside 0 refl
+cell_says (Some a) =
+    let v : ((a.part + 1) * 8 + a.voice) % 8 ≡ a.voice = omega arith in
+    cell_line ((a.part + 1) * 8 + a.voice) a.part (omega arith) (omega arith) ∙ ap (Line a.part) v
 
 -- part and voice of a cell of 16 bits
 pub line_bounds : (c : ℕ) {p v : ℕ} → c < 65536 → spine_of c ≡ Line p v → (p < 8191) × (v < 4)
