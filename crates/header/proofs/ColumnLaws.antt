@@ -1,6 +1,6 @@
 -- The header's tokens one by one: the table of active spines, and the first row.
 use mathlib.Core.Path.{◌≡◌, refl, sym, ap, ap₂, subst, ◌∙◌}
-use Prim.Native.Nat.{ℕ, zero, suc, ◌+◌, ◌*◌, ◌/◌, ◌%◌, ◌≤◌, ◌<◌}
+use Prim.Native.Nat.{ℕ, zero, suc, ◌+◌, ◌≤◌, ◌<◌}
 use native.Mathlib.Nat.{add-zero, zero-add}
 use native.Mathlib.Numerals.{add-one}
 use native.Mathlib.Omega.{arith}
@@ -28,26 +28,22 @@ use Rattle.paths.specs.Text.{header_from, header_row}
 use Rattle.spines.specs.Cells.{spine_of, row_of}
 use Rattle.spines.specs.Table.{active_at, cell_of, cells_of}
 use Rattle.std.proofs.Common.{Option, Some, None}
-use Rattle.spines.specs.declared.Line.{Line as Active-line}
-use Rattle.spines.proofs.CellLaws.{cell_outside, cell_line, row_append}
-use Rattle.spines.proofs.TableLaws.{cells_length, cells_set}
+use Rattle.spines.specs.declared.active.Line.{Line as ActiveLine}
+use Rattle.spines.proofs.CellLaws.{row_append}
+use Rattle.spines.proofs.TableLaws.{cells_length, cells_set, cell_says}
 use Rattle.reading.specs.Header.{fresh_parts, any_kern}
 use Rattle.header.specs.Columns.{HeaderTable}
 
 -- ---- a column
-pub column_kern : (t : List ℕ) (p : ℕ) → is_kern t ≡ true
-    → (spine_of (cell_of (Some (record { part = p; voice = 0 }))) ∷ [] ≡ header_from p (is_kern t ∷ [])) × (p + 1 ≡ p + length (fresh_parts p (is_kern t ∷ [])))
-unfolding header_from fresh_parts cell_of
-column_kern t p k =
-    let c = (p + 1) * 8 + 0 in
-    let q : c / 8 ≡ p + 1 = omega arith in
-    let v : c % 8 ≡ 0 = omega arith in
-    rw k (ap (λ (x : Spine). x ∷ []) (cell_line c p q (omega arith) ∙ ap (Line p) v), refl)
+pub column_kern : (t : List ℕ) (p : ℕ) (a : ActiveLine) → a.part ≡ p → a.voice ≡ 0 → is_kern t ≡ true
+    → (spine_of (cell_of (Some a)) ∷ [] ≡ header_from p (is_kern t ∷ [])) × (p + 1 ≡ p + length (fresh_parts p (is_kern t ∷ [])))
+unfolding header_from fresh_parts
+column_kern t p a is_part is_voice k = rw k (ap (λ (x : Spine). x ∷ []) (cell_says (Some a) ∙ ap₂ Line is_part is_voice), refl)
 
 pub column_other : (t : List ℕ) (p : ℕ) → is_kern t ≡ false
     → (spine_of (cell_of None) ∷ [] ≡ header_from p (is_kern t ∷ [])) × (p ≡ p + length (fresh_parts p (is_kern t ∷ [])))
-unfolding header_from fresh_parts cell_of
-column_other t p k = rw k (ap (λ (x : Spine). x ∷ []) (cell_outside 0 refl), sym (add-zero p))
+unfolding header_from fresh_parts
+column_other t p k = rw k (ap (λ (x : Spine). x ∷ []) (cell_says None), sym (add-zero p))
 
 -- a column in front of others
 header_more : (b : Bool) (p : ℕ) (ks : List Bool) → header_from p (b ∷ ks) ≡ header_from p (b ∷ []) ++ header_from (p + length (fresh_parts p (b ∷ []))) ks
@@ -89,7 +85,7 @@ module _ {F : Type 0} (g : Mut F (Bor ℕ × Unit {0}) Bool) {f : F} (s : _) (li
     numbered_end is = (YieldsList-end road xs t given r u is step).1 ∙ length-enumerate_from 0 (tokens_of line)
 
 -- ---- the table: the spines of the first n tokens are written, with p parts
-pub record Filling (ts : List (List ℕ)) (spines : List (Option Active-line)) (n p : ℕ) : Type 0 where
+pub record Filling (ts : List (List ℕ)) (spines : List (Option ActiveLine)) (n p : ℕ) : Type 0 where
   pub kept : length spines ≡ 256
   pub low : p ≤ n
   pub clear : (k : ℕ) → n ≤ k → active_at spines k ≡ None
@@ -104,18 +100,18 @@ none_at (suc m) (suc k) = none_at m k
 pub filling_first : (ts : List (List ℕ)) → Filling ts (replicate 256 None) 0 0
 unfolding row_of
 filling_first ts = record {
-  kept = length-replicate {A = Option Active-line} 256 None;
+  kept = length-replicate {A = Option ActiveLine} 256 None;
   low = omega arith;
   clear = λ k h. none_at 256 k;
   same = refl;
   fresh = zero-add (length (fresh_parts 0 (map is_kern ts)));
 }
 
-module _ {ts : List (List ℕ)} {spines : List (Option Active-line)} {n p : ℕ} (inv : Filling ts spines n p) (few : length ts ≤ 256) (lt : n < length ts) (x : List ℕ) (is : x ≡ get_or ts n x) where
+module _ {ts : List (List ℕ)} {spines : List (Option ActiveLine)} {n p : ℕ} (inv : Filling ts spines n p) (few : length ts ≤ 256) (lt : n < length ts) (x : List ℕ) (is : x ≡ get_or ts n x) where
   here : drop n ts ≡ x ∷ drop (n + 1) ts
   here = drop-cons ts n x lt ∙ ap₂ (λ (y : List ℕ) (k : ℕ). y ∷ drop k ts) (sym is) (sym (add-one n))
 
-  module _ (a : Option Active-line) {q : ℕ} (col : (spine_of (cell_of a) ∷ [] ≡ header_from p (is_kern x ∷ [])) × (q ≡ p + length (fresh_parts p (is_kern x ∷ [])))) where
+  module _ (a : Option ActiveLine) {q : ℕ} (col : (spine_of (cell_of a) ∷ [] ≡ header_from p (is_kern x ∷ [])) × (q ≡ p + length (fresh_parts p (is_kern x ∷ [])))) where
     filling_turn : Filling ts (set spines n a) (n + 1) q
     unfolding row_of
     filling_turn =
@@ -142,15 +138,15 @@ module _ {ts : List (List ℕ)} {spines : List (Option Active-line)} {n p : ℕ}
         }
 
   -- a kern token's spine is written; one outside kern stays as it was
-  pub filling_kern : is_kern x ≡ true → Filling ts (set spines n (Some (record { part = p; voice = 0 }))) (n + 1) (p + 1)
-  filling_kern e = filling_turn (Some (record { part = p; voice = 0 })) (column_kern x p e)
+  pub filling_kern : {i m : ℕ} (a : ActiveLine) → i ≡ n → m ≡ n + 1 → a.part ≡ p → a.voice ≡ 0 → is_kern x ≡ true → Filling ts (set spines i (Some a)) m (p + 1)
+  filling_kern {i} {m} a is_column is_next is_part is_voice e = rw (is_column, is_next) (filling_turn (Some a) (column_kern x p a is_part is_voice e))
 
   pub filling_other : is_kern x ≡ false → Filling ts spines (n + 1) p
   filling_other e =
       let same : set spines n None ≡ spines = ap (set spines n) (sym (inv.clear n (omega arith))) ∙ set-get_or spines n None in
-      subst (λ (l : List (Option Active-line)). Filling ts l (n + 1) p) same (filling_turn None (column_other x p e))
+      subst (λ (l : List (Option ActiveLine)). Filling ts l (n + 1) p) same (filling_turn None (column_other x p e))
 
-pub filling_past : {ts : List (List ℕ)} {spines : List (Option Active-line)} {n p : ℕ} → Filling ts spines n p → n ≡ length ts → HeaderTable ts spines p
+pub filling_past : {ts : List (List ℕ)} {spines : List (Option ActiveLine)} {n p : ℕ} → Filling ts spines n p → n ≡ length ts → HeaderTable ts spines p
 unfolding header_from fresh_parts
 filling_past {ts} {spines} {n} {p} inv h =
     let none : drop n ts ≡ [] = drop_of_length-le ts {i = n} (omega arith) in
@@ -165,14 +161,14 @@ filling_past {ts} {spines} {n} {p} inv h =
     }
 
 -- ---- the row: i cells are written
-pub cells_at : (l : List (Option Active-line)) (i : ℕ) → get_or (cells_of l) i 0 ≡ cell_of (active_at l i)
+pub cells_at : (l : List (Option ActiveLine)) (i : ℕ) → get_or (cells_of l) i 0 ≡ cell_of (active_at l i)
 unfolding cells_of cell_of
 cells_at l i = get_or-map cell_of l i None
 
-abbrev pub Laying : List (Option Active-line) → List ℕ → ℕ → Type 0
+abbrev pub Laying : List (Option ActiveLine) → List ℕ → ℕ → Type 0
 Laying table row i = take i row ≡ take i (cells_of table)
 
-pub laying_turn : (table : List (Option Active-line)) (row : List ℕ) {i c : ℕ} → Laying table row i → i < length row → length row ≤ length table
+pub laying_turn : (table : List (Option ActiveLine)) (row : List ℕ) {i c : ℕ} → Laying table row i → i < length row → length row ≤ length table
     → c ≡ cell_of (active_at table i) → Laying table (set row i c) (i + 1)
 laying_turn table row {i} {c} inv h few e =
     ap (λ (k : ℕ). take k (set row i c)) (add-one i)

@@ -4,7 +4,7 @@ use Rattle.lines.specs.Tokens.{is_kern}
 use Rattle.paths.specs.Text.{header_row}
 use Rattle.spines.specs.Cells.{row_of}
 use Rattle.spines.specs.Table.{cells_of}
-use Rattle.spines.specs.declared.Line.{Line}
+use Rattle.spines.specs.declared.active.Line.{Line}
 use Rattle.sheet.specs.Record.{span_of}
 use Rattle.reading.specs.State.{State, Result}
 use Rattle.reading.specs.Notices.{quiet, notify}

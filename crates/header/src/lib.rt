@@ -86,7 +86,7 @@ fn table_of(line: &[u8]) -> Table
     for (i, token) in line.split(|b| *b == b'\t').enumerate() {
         if lines::is_kern(token) {
             spines[i] = Some(Line {
-                part: parts as u8,
+                part: parts as u16,
                 voice: 0,
             });
             parts += 1;

@@ -1,5 +1,6 @@
 -- The passes over a record, and that they give what the backward trace says.
 pub mod PassLaws
+pub mod TableLaws
 pub mod CarryLaws
 pub mod ForkLaws
 pub mod FiveLaws

@@ -1,16 +1,18 @@
 #![tactic(auto)]
 
 // Which lines of a part fill its staff where a record splits one more: the columns that carry a line on, then the branches.
-ghost use Rattle.std.specs.Prelude.{◌≡◌, ℕ, ◌<◌, [], map, ◌&&◌, false, length, Some};
+ghost use Rattle.std.specs.Prelude.{◌≡◌, ℕ, ◌≤◌, ◌<◌, [], map, ◌&&◌, false, length, Some};
 ghost use Rattle.lines.specs.Tokens.{tokens_of, is_kern};
-ghost use Rattle.spines.specs.Cells.{spine_of, row_of};
+ghost use Rattle.spines.specs.Cells.{row_of};
+ghost use Rattle.spines.specs.Table.{active_spine, active_row};
 ghost use Rattle.spines.specs.Tokens.{record_tokens};
 ghost use Rattle.holders.specs.Walk.{listed, is_of, carries, is_split, line_voice, lines_from, branches_from, walked, kern_column, or_zero};
 
 mod list;
 
 pub use list::{Holder, Holders};
-use paths::{PathToken, Spine};
+use paths::PathToken;
+use spines::Line;
 
 // Whether a token carries its column's line on: `follows` says whether a `*v` stands to its left.
 fn carries(t: PathToken, follows: bool) -> bool
@@ -23,26 +25,26 @@ fn carries(t: PathToken, follows: bool) -> bool
     }
 }
 
-// The voice of a cell that is a line of the part.
-fn line_voice(cell: u16, part: usize) -> Option<usize>
-    ensures { result ≡ line_voice part (spine_of cell) }
+// The voice of a line of the part.
+fn line_voice(line: Option<Line>, part: usize) -> Option<usize>
+    ensures { result ≡ line_voice part (active_spine line) }
 {
-    match spines::spine_of(cell) {
-        Spine::Line { part: own, voice } if part == own => Some(voice),
+    match line {
+        Some(line) if usize::from(line.part) == part => Some(usize::from(line.voice)),
         _ => None,
     }
 }
 
-// The columns of a row that carry a line of the part on through a record, by rising column.
-fn lines_of(line: &[u8], row: &[u16], part: usize, header: usize) -> Holders
-    ensures { listed result ≡ lines_from part header [] 0 false (record_tokens (length row.now) line.now) (row_of row.now) }
+// The columns of a row's table that carry a line of the part on through a record, by rising column.
+fn lines_of(line: &[u8], table: &[Option<Line>], part: usize, header: usize) -> Holders
+    ensures { listed result ≡ lines_from part header [] 0 false (record_tokens (length table.now) line.now) (active_row table.now) }
 {
     let mut held = Holders::empty();
     let mut follows = false;
     let mut from = 0;
-    for (i, &cell) in row.iter().enumerate() {
-        let token = spines::token_at(line, from, row.len() - i);
-        if let Some(voice) = line_voice(cell, part) {
+    for i in 0..table.len() {
+        let token = spines::token_at(line, from, table.len() - i);
+        if let Some(voice) = line_voice(spines::active_at(table, i), part) {
             if carries(token.kind, follows) {
                 held.push(Holder {
                     column: i + 1,
@@ -57,24 +59,30 @@ fn lines_of(line: &[u8], row: &[u16], part: usize, header: usize) -> Holders
     held
 }
 
-// Whether a cell's token gives a branch of the part.
-fn is_branch(cell: u16, part: usize, t: PathToken) -> bool
-    ensures { result ≡ (is_of part (spine_of cell) && is_split t) }
+// Whether the token under a spine gives a branch of the part.
+fn is_branch(line: Option<Line>, part: usize, t: PathToken) -> bool
+    ensures { result ≡ (is_of part (active_spine line) && is_split t) }
 {
-    t == PathToken::Split && line_voice(cell, part).is_some()
+    t == PathToken::Split && line_voice(line, part).is_some()
 }
 
 // The branches of the part behind its lines, left to right, up to the one that finds no voice.
 // Stays: no plainer: a walk of its own, as the branches come behind all lines; one walk for both would keep a second list.
-fn branches_of(line: &[u8], row: &[u16], part: usize, header: usize, lines: Holders) -> Holders
-    ensures { listed result ≡ branches_from part header (listed lines) 0 (record_tokens (length row.now) line.now) (row_of row.now) }
+fn branches_of(
+    line: &[u8],
+    table: &[Option<Line>],
+    part: usize,
+    header: usize,
+    lines: Holders,
+) -> Holders
+    ensures { listed result ≡ branches_from part header (listed lines) 0 (record_tokens (length table.now) line.now) (active_row table.now) }
 {
     let mut held = lines;
     let mut from = 0;
-    for (i, &cell) in row.iter().enumerate() {
-        let token = spines::token_at(line, from, row.len() - i);
+    for i in 0..table.len() {
+        let token = spines::token_at(line, from, table.len() - i);
         from = token.next;
-        if !is_branch(cell, part, token.kind) {
+        if !is_branch(spines::active_at(table, i), part, token.kind) {
             continue;
         }
         let voice = held.free_voice();
@@ -91,12 +99,17 @@ fn branches_of(line: &[u8], row: &[u16], part: usize, header: usize, lines: Hold
     held
 }
 
-// What fills the staff of a part, whose header column is given, at a record under a row.
+// What fills the staff of a part, whose header column is given, at a record under a row of at most 256 spines: the row's table of
+// active spines is filled once, and each column is looked up there.
 pub fn holders_of(line: &[u8], row: &[u16], part: usize, header: usize) -> Holders
+    requires { length row.now ≤ 256 }
     ensures { listed result ≡ walked part header (record_tokens (length row.now) line.now) (row_of row.now) }
 {
-    let lines = lines_of(line, row, part, header);
-    branches_of(line, row, part, header, lines)
+    let mut spines = [None; 256];
+    let table = &mut spines[..row.len()];
+    spines::fill_table(row, table);
+    let lines = lines_of(line, table, part, header);
+    branches_of(line, table, part, header, lines)
 }
 
 // The column, from 1, of the header's token that is `**kern` with so many before it.

@@ -1,5 +1,5 @@
 -- A token of a kern line: where it stands, what it comes to, and what stays as it was.
-use Rattle.std.specs.Prelude.{◌≡◌, ℕ, ◌+◌, ◌-◌, ◌/◌, ◌%◌, ◌^◌, ◌≤◌, ◌<◌, Bool, cond, List, length, Option, Result as Answered, Ok, Err}
+use Rattle.std.specs.Prelude.{◌≡◌, ℕ, ◌+◌, ◌^◌, ◌≤◌, ◌<◌, Bool, cond, List, length, Option, Result as Answered, Ok, Err}
 use Rattle.state.specs.Counts.{Same}
 use Rattle.lines.specs.Tokens.{is_null}
 use Rattle.duration.specs.declared.Value.{Value}
@@ -16,10 +16,6 @@ use Rattle.refusal.specs.declared.Refusal.{Refusal}
 use Rattle.state.specs.Lay.{laid, behind}
 use Rattle.state.specs.View.{state_of}
 use Rattle.notes.specs.declared.Spot.{Spot}
-
--- the spot of a kern line's cell, 8 * (part + 1) + voice, in a column from 0
-abbrev pub spot_at : ℕ → ℕ → ℕ → ℕ → Spot
-spot_at cell index line at = record { part = cell / 8 - 1; voice = cell % 8; line = line; column = index + 1; at = at }
 
 -- the token of a spot
 abbrev pub token_at : Spot → List ℕ → Token

@@ -13,7 +13,10 @@ fn header_row(letters: &[u8]) -> [u16; 512] {
     let mut row = [0; 512];
     let mut part = 0u8;
     for (cell, letter) in row.iter_mut().zip(letters) {
-        let line = (*letter == b'k').then_some(Line { part, voice: 0 });
+        let line = (*letter == b'k').then_some(Line {
+            part: u16::from(part),
+            voice: 0,
+        });
         *cell = spines::cell_at(&[line], 0);
         part = part.wrapping_add(u8::from(line.is_some()));
     }

@@ -1,16 +1,19 @@
 #![tactic(auto)]
 
 // The row of spines, what a record's path tokens join, its next row by them, and the table of active spines.
-ghost use Rattle.std.specs.Prelude.{◌≡◌, min, ◌*◌, ◌≤◌, ◌<◌, length, take};
+ghost use Rattle.std.specs.Prelude.{◌≡◌, min, ◌*◌, ◌≤◌, ◌<◌, length, take, map};
 ghost use Rattle.paths.specs.Joins.{mixed_run};
 ghost use Rattle.paths.specs.Row.{part_at, next_row};
 ghost use Rattle.paths.specs.Voices.{Outcome, unmixed};
 ghost use Rattle.spines.specs.Cells.{spine_of, row_of};
 ghost use Rattle.spines.specs.Runs.{runs_of};
-ghost use Rattle.spines.specs.Table.{active_at, cell_of};
+ghost use Rattle.spines.specs.Table.{active_at, cell_of, line_of, active_spine, active_row};
 ghost use Rattle.spines.specs.Tokens.{record_tokens, Ahead};
 ghost use Rattle.spines.specs.Emit.{mode_of, Emitted};
 
+mod active;
+
+pub use active::Line;
 use paths::{PathToken, Spine};
 
 // The spine of a cell.
@@ -186,22 +189,26 @@ pub fn mixed_run(line: &[u8], row: &[u16; 512], active: usize) -> Option<usize>
     walk_runs(line, &row[..active.min(256)])
 }
 
-// A line of a part, with its voice.
-#[derive(Clone, Copy, Debug, PartialEq, Eq)]
-pub struct Line {
-    pub part: u8,
-    pub voice: u8,
+// The line of a cell: none outside kern, and none of a branch, which still needs a voice.
+fn line_of(cell: u16) -> Option<Line>
+    ensures { active_spine result ≡ line_of (spine_of cell) }
+{
+    match spine_of(cell) {
+        Spine::Line { part, voice } => Some(Line {
+            part: part as u16,
+            voice: voice as u8,
+        }),
+        _ => None,
+    }
 }
 
-impl From<Line> for u16 {
-    ghost use Rattle.std.specs.Prelude.{Some};
-
-    ghost from_gives = { λ l c. c ≡ cell_of (Some l) };
-
-    // The cell of a line, as `spine_of` reads it.
-    #[tactic(auto, unfolding(crate::specs::Table::cell_of))]
-    fn from(line: Line) -> u16 {
-        (u16::from(line.part) + 1) * 8 + u16::from(line.voice)
+// Fills the table of active spines of a row: the line of each cell.
+pub fn fill_table(row: &[u16], spines: &mut [Option<Line>])
+    requires { length spines.old ≡ length row.now }
+    ensures { active_row spines.new ≡ map line_of (row_of row.now) }
+{
+    for (i, spine) in spines.iter_mut().enumerate() {
+        *spine = line_of(row[i]);
     }
 }
 

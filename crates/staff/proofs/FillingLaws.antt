@@ -6,7 +6,7 @@ use native.Mathlib.Omega.{arith}
 use mathlib.Core.Bool.{Bool, true, false, cond, not, false≢true}
 use mathlib.Core.List.{List, [], ◌∷◌, ◌++◌, map}
 use mathlib.Core.Option.{some}
-use lib.Dec.{eqb, leb, ltb}
+use lib.Dec.{eqb, ltb}
 use lib.ListN.{length, get_or, take, length-map}
 use lib.Seq.{take_at, get_or_at}
 use borrow.Author.Tests.{eqb-true}
@@ -35,7 +35,7 @@ use Rattle.holders.specs.declared.list.Holders.{Holders}
 use Rattle.holders.proofs.AgreeLaws.{walked_is, five_there}
 use Rattle.holders.proofs.OverLaws.{over_four}
 use Rattle.reading.specs.Header.{any_kern, read_header}
-use Rattle.reading.specs.Records.{read_line, by_repair, on_row, on_record, is_record as isRecordRead}
+use Rattle.reading.specs.Records.{read_line, by_repair, on_row, on_record, is_record as is_record_read}
 use Rattle.reading.specs.Notices.{placed}
 use Rattle.reading.specs.State.{State, Result, Step, refused, goes, ends, start}
 use Rattle.reading.specs.Text.{Answer, refusal, accepted, read_text, answered, answer_of}
@@ -173,7 +173,7 @@ module _ (tail : List (List ℕ)) (there : State) where
       by : (t : Bool) → is_record (kind_of (without_crs l)) ≡ t
           → where_goes (read_line false (k + 1) offset (without_crs l) st) (λ (s : State). place_after (is_record (kind_of (without_crs l))) (k + 1) (offset + length l + 1) s ls)
           ≡ some (record { begun = true; state = there })
-          → row_through (isRecordRead (kind_of (without_crs l))) (row_past false (without_crs l) st.row) ls ≡ there.row
+          → row_through (is_record_read (kind_of (without_crs l))) (row_past false (without_crs l) st.row) ls ≡ there.row
       by true t e = rw (same_record (kind_of (without_crs l)) ∙ t) (header t (on_record false (k + 1) offset (without_crs l) st) refl (rw (t, record_line false (k + 1) offset (without_crs l) st t) at e))
       by false t e =
           let o : (r : Result) × (read_line false (k + 1) offset (without_crs l) st ≡ goes r) × Adds st r [] = other_line false (k + 1) offset (without_crs l) st t in

@@ -35,7 +35,7 @@ use Rattle.voices.specs.declared.Stop.{Stop}
 use Rattle.voices.specs.declared.Stop.TheVariants.{Mixed, Voiceless, Wide}
 use Rattle.holders.specs.Walk.{walked, or_zero, kern_column}
 use Rattle.holders.specs.declared.list.Holder.{Holder}
-use Rattle.reading.specs.Records.{is_record as isRecordRead}
+use Rattle.reading.specs.Records.{is_record as is_record_read}
 use Rattle.account.specs.Rows.{records_from, records_of, header_in, header_of}
 use Rattle.account.proofs.LineLaws.{records_some, records_none, same_record}
 use Rattle.staff.specs.Row.{row_by, headed_by, row_past, row_through, walked_at}
@@ -92,7 +92,7 @@ walking_first ls cells = record { few = omega arith; row = refl }
 
 module _ {ls : List (List ℕ)} {cells : List ℕ} {begun : Bool} {active n : ℕ} (inv : Walking ls cells begun active n) where
   pub walking_turn : {piece line : List ℕ} {kind : Kind} {cells' : List ℕ} {active' : ℕ} {begun' : Bool} → n < length ls → piece ≡ get_or ls n piece → line ≡ without_crs piece → kind ≡ kind_of line
-      → (row_of (take active' cells') ≡ row_past begun line (row_of (take active cells))) × (active' ≤ 256) → begun' ≡ (begun || isRecordRead kind) → Walking ls cells' begun' active' (n + 1)
+      → (row_of (take active' cells') ≡ row_past begun line (row_of (take active cells))) × (active' ≤ 256) → begun' ≡ (begun || is_record_read kind) → Walking ls cells' begun' active' (n + 1)
   unfolding row_through
   walking_turn {piece} {line} {kind} {cells'} {active'} {begun'} h is is_line is_kind (e, l) b = record {
     few = l;
@@ -109,8 +109,8 @@ abbrev pub heads : Option (List ℕ) → List Bool
 heads None = []
 heads (Some l) = map is_kern (tokens_of l)
 
-heads_here : (k : ℕ) (l : List ℕ) (ls : List (List ℕ)) (b : Bool) → isRecordRead (kind_of (without_crs l)) ≡ b → heads (find (λ (l : List ℕ). isRecordRead (kind_of l)) (map without_crs ls)) ≡ header_in (records_from (k + 1) ls)
-    → heads (cond b (Some (without_crs l)) (find (λ (l : List ℕ). isRecordRead (kind_of l)) (map without_crs ls))) ≡ header_in (records_from k (l ∷ ls))
+heads_here : (k : ℕ) (l : List ℕ) (ls : List (List ℕ)) (b : Bool) → is_record_read (kind_of (without_crs l)) ≡ b → heads (find (λ (l : List ℕ). is_record_read (kind_of l)) (map without_crs ls)) ≡ header_in (records_from (k + 1) ls)
+    → heads (cond b (Some (without_crs l)) (find (λ (l : List ℕ). is_record_read (kind_of l)) (map without_crs ls))) ≡ header_in (records_from k (l ∷ ls))
 heads_here k l ls true e h = sym (ap header_in (records_some k l ls (sym (same_record (kind_of (without_crs l))) ∙ e)))
 heads_here k l ls false e h = h ∙ sym (ap header_in (records_none k l ls (sym (same_record (kind_of (without_crs l))) ∙ e)))
 
@@ -139,12 +139,12 @@ by_none zero = refl
 by_none (suc q) = refl
 
 -- the first record is found among the lines
-heads_from : (k : ℕ) (ls : List (List ℕ)) → heads (find (λ (l : List ℕ). isRecordRead (kind_of l)) (map without_crs ls)) ≡ header_in (records_from k ls)
+heads_from : (k : ℕ) (ls : List (List ℕ)) → heads (find (λ (l : List ℕ). is_record_read (kind_of l)) (map without_crs ls)) ≡ header_in (records_from k ls)
 unfolding records_from
 heads_from k [] = refl
-heads_from k (l ∷ ls) = heads_here k l ls (isRecordRead (kind_of (without_crs l))) refl (heads_from (k + 1) ls)
+heads_from k (l ∷ ls) = heads_here k l ls (is_record_read (kind_of (without_crs l))) refl (heads_from (k + 1) ls)
 
-pub heads_of : (text : List ℕ) {r : Option (List ℕ)} → r ≡ find (λ (l : List ℕ). isRecordRead (kind_of l)) (map without_crs (lines_of text)) → heads r ≡ header_of text
+pub heads_of : (text : List ℕ) {r : Option (List ℕ)} → r ≡ find (λ (l : List ℕ). is_record_read (kind_of l)) (map without_crs (lines_of text)) → heads r ≡ header_of text
 unfolding records_of
 heads_of text e = ap heads e ∙ heads_from 0 (lines_of text)
 

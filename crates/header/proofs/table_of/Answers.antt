@@ -1,5 +1,5 @@
 -- The spines written, and the columns of the tokens left, make the first row.
-use Rattle.std.proofs.Common.{◌∙◌, sym, subst, ℕ, ◌+◌, set, Some, length-append, rules, tests, arith}
+use Rattle.std.proofs.Common.{◌∙◌, refl, sym, subst, ℕ, length-append, rules, tests, arith}
 use Rattle.lines.specs.Tokens.{tokens_of}
 use Rattle.header.proofs.ColumnLaws.{Filling, numbered_turn, numbered_end, filling_first, filling_kern, filling_other, filling_past}
 use Rattle.header.proofs.table_of.Goals as goal
@@ -10,6 +10,10 @@ loop-i-init c = filling_first (tokens_of c.args.line.now)
 pub overflow_cast-spines : goal.overflow_cast-spines
 overflow_cast-spines c = let t = numbered_turn _ _ c.args.line.now (search (rules, tests)) c.loop-i.yielded _ _ c.loop-i.yielded_by _ c.next.ensures.steps c.in-Some.is in omega (arith, t.0, c.requires, c.loop-i.invariant.low)
 
+pub invariant_of-spines : goal.invariant_of-spines
+invariant_of-spines c = let t = numbered_turn _ _ c.args.line.now (search (rules, tests)) c.loop-i.yielded _ _ c.loop-i.yielded_by _ c.next.ensures.steps c.in-Some.is in
+    record { part_in = omega (arith, t.0, c.requires, c.loop-i.invariant.low); voice_in = omega arith }
+
 pub offset_bounds-spines-i : goal.offset_bounds-spines-i
 offset_bounds-spines-i c = let t = numbered_turn _ _ c.args.line.now (search (rules, tests)) c.loop-i.yielded _ _ c.loop-i.yielded_by _ c.next.ensures.steps c.in-Some.is in omega (arith, t.0, t.1.0, c.requires)
 
@@ -18,8 +22,7 @@ bounds-spines-i c = let t = numbered_turn _ _ c.args.line.now (search (rules, te
 
 pub loop-i-preserved-then-is_kern : goal.loop-i-preserved-then-is_kern
 loop-i-preserved-then-is_kern c = let t = numbered_turn _ _ c.args.line.now (search (rules, tests)) c.loop-i.yielded _ _ c.loop-i.yielded_by _ c.next.ensures.steps c.in-Some.is in
-    subst (λ (n : ℕ). Filling (tokens_of c.args.line.now) (set c.loop-i.spines c.in-Some.i (Some (record { part = c.loop-i.parts; voice = 0 }))) n (c.loop-i.parts + 1)) (sym (length-append c.loop-i.yielded _))
-    (rw t.1.0 (filling_kern c.loop-i.invariant c.requires t.0 c.in-Some.token.now t.1.1 (sym c.is_kern.ensures ∙ c.if-is_kern.true)))
+    filling_kern c.loop-i.invariant c.requires t.0 c.in-Some.token.now t.1.1 _ t.1.0 (length-append c.loop-i.yielded _) refl refl (sym c.is_kern.ensures ∙ c.if-is_kern.true)
 
 pub loop-i-preserved : goal.loop-i-preserved
 loop-i-preserved c = let t = numbered_turn _ _ c.args.line.now (search (rules, tests)) c.loop-i.yielded _ _ c.loop-i.yielded_by _ c.next.ensures.steps c.in-Some.is in

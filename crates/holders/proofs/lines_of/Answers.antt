@@ -1,8 +1,7 @@
 -- The lines so far, and those of the tokens left, are those of the whole record.
 use Rattle.std.proofs.Common.{sym, ◌∙◌, arith}
-use lib.ListN.{get_or}
 use Rattle.paths.proofs.TokenLaws.{join_same}
-use Rattle.spines.specs.Cells.{spine_of}
+use Rattle.spines.specs.Table.{active_spine}
 use Rattle.holders.specs.Walk.{listed}
 use Rattle.holders.proofs.PassLaws.{lining_first, lining_turn, lining_past, step_carried, step_ended, step_other}
 use Rattle.holders.proofs.lines_of.Goals as goal
@@ -13,12 +12,12 @@ loop-i-init c = lining_first _ _ _ _ c.empty-held.ensures
 
 pub loop-i-preserved : goal.loop-i-preserved
 loop-i-preserved c =
-    lining_turn c.loop-i.invariant c.loop-i-test.true c.token_at-token.ensures
+    lining_turn c.loop-i.invariant c.loop-i-test.true c.token_at-token.ensures c.active_at.ensures
     (
     elim c.match-line_voice.branch [
-      | in-Some+then-carries w ↦ rw w.held-is (w.push.ensures ∙ step_carried c.args.part c.args.header c.loop-i.i (listed c.loop-i.held) c.loop-i.follows c.token_at-token.result.kind (spine_of (get_or c.args.row.now c.loop-i.i 0)) w.in-Some.ensures (sym w.carries.ensures ∙ w.if-carries.true))
-      | in-Some+else-carries w ↦ rw w.held-is (step_ended c.args.part c.args.header c.loop-i.i (listed c.loop-i.held) c.loop-i.follows c.token_at-token.result.kind (spine_of (get_or c.args.row.now c.loop-i.i 0)) (sym w.carries.ensures ∙ w.if-carries.false))
-      | in_default w ↦ rw w.held-is (step_other c.args.part c.args.header c.loop-i.i (listed c.loop-i.held) c.loop-i.follows c.token_at-token.result.kind (spine_of (get_or c.args.row.now c.loop-i.i 0)) (λ v e. w.in_default.not-Some v (c.line_voice.ensures ∙ e)))
+      | in-Some+then-carries w ↦ rw w.held-is (w.push.ensures ∙ step_carried c.args.part c.args.header c.loop-i.i (listed c.loop-i.held) c.loop-i.follows c.token_at-token.result.kind (active_spine c.active_at.result) w.in-Some.ensures (sym w.carries.ensures ∙ w.if-carries.true))
+      | in-Some+else-carries w ↦ rw w.held-is (step_ended c.args.part c.args.header c.loop-i.i (listed c.loop-i.held) c.loop-i.follows c.token_at-token.result.kind (active_spine c.active_at.result) (sym w.carries.ensures ∙ w.if-carries.false))
+      | in_default w ↦ rw w.held-is (step_other c.args.part c.args.header c.loop-i.i (listed c.loop-i.held) c.loop-i.follows c.token_at-token.result.kind (active_spine c.active_at.result) (λ v e. w.in_default.not-Some v (c.line_voice.ensures ∙ e)))
     ]
     )
     (c.eq-follows.ensures ∙ join_same _)
