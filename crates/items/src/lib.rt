@@ -1,14 +1,15 @@
 #![tactic(auto)]
 
-// A token as items: runs of digits, runs of one letter, blanks, and single bytes.
+// A token as items: runs of digits, ratios, runs of one letter, blanks, and single bytes.
 ghost use Rattle.std.specs.Prelude.{◌≡◌, ℕ, true, false, ◌+◌, ◌<◌, ◌≤◌, length, get_or, drop};
-ghost use Rattle.items.specs.Items.{is_digit, is_letter, first, next_item};
+ghost use Rattle.items.specs.Items.{is_digit, is_letter, first, first_piece, next_item};
 
 use duration::Value;
 
 #[derive(Clone, Copy, PartialEq, Eq, Debug)]
 pub enum Item {
     Digits(Option<Value>),
+    Ratio(Option<Value>),
     Letters { letter: u8, count: usize },
     Blank,
     Mark(u8),
@@ -65,6 +66,18 @@ pub fn digits_end(token: &[u8], from: usize) -> usize
     end_of(token, from + 1, |b| is_digit(b))
 }
 
+// Where the length ends that begins at an index.
+pub fn length_end(token: &[u8], from: usize) -> usize
+    requires { (from < length token.now) × (is_digit (get_or token.now from 0) ≡ true) }
+    ensures { result ≡ from + first_piece (drop from token.now) }
+{
+    let end = digits_end(token, from);
+    match token.get(end..) {
+        Some([b'%', b, ..]) if is_digit(*b) => digits_end(token, end + 1),
+        _ => end,
+    }
+}
+
 // The end of the run of a letter that begins at an index.
 pub fn letter_end(token: &[u8], from: usize) -> usize
     requires { (from < length token.now) × (is_letter (get_or token.now from 0) ≡ true) }
@@ -72,6 +85,27 @@ pub fn letter_end(token: &[u8], from: usize) -> usize
 {
     let letter = token[from];
     end_of(token, from + 1, |b| b == letter)
+}
+
+// The length that begins at an index: a run of digits, or a ratio where a `%` and a digit stand behind it.
+pub fn length_at(token: &[u8], from: usize) -> Next
+    requires { (from < length token.now) × (is_digit (get_or token.now from 0) ≡ true) }
+    ensures { result ≡ next_item token.now from }
+{
+    let end = digits_end(token, from);
+    match token.get(end..) {
+        Some([b'%', b, ..]) if is_digit(*b) => {
+            let to = digits_end(token, end + 1);
+            Next {
+                item: Item::Ratio(duration::ratio_value(&token[from..end], &token[end + 1..to])),
+                end: to,
+            }
+        }
+        _ => Next {
+            item: Item::Digits(duration::kern_duration(&token[from..end])),
+            end,
+        },
+    }
 }
 
 // The item that begins at an index.
@@ -87,12 +121,7 @@ pub fn next_item(token: &[u8], from: usize) -> Next
     }
     let b = token[from];
     if is_digit(b) {
-        let end = digits_end(token, from);
-        let value = duration::kern_duration(&token[from..end]);
-        return Next {
-            item: Item::Digits(value),
-            end,
-        };
+        return length_at(token, from);
     }
     if is_letter(b) {
         let end = letter_end(token, from);
