@@ -103,14 +103,21 @@ pub fn kern_duration(digits: &[u8]) -> Option<Value>
 }
 
 // The smallest of the ten values that is not below m over n; the longa where none is.
+#[tactic(auto, using(crate::proofs::RatioExits::values))]
 fn smallest(n: u32, m: u32) -> u32
     requires { (n ≤ 255) × (m ≤ 255) }
     ensures { result ≡ smallest_of 9 n m }
 {
-    (1..10u32).rev().find(|v| m << *v <= 4 * n).unwrap_or(0)
+    for v in (1..10).rev() {
+        if m << v <= 4 * n {
+            return v;
+        }
+    }
+    0
 }
 
 // The value of the ratio n%m, which lasts m over n; None where it is above 4 or its tuplet doesn't fit.
+#[tactic(auto, using(crate::proofs::RatioExits::ratios))]
 fn ratio_of(n: u32, m: u32) -> Option<Value>
     requires { (1 ≤ n) × (n ≤ 255) × (m ≤ 255) }
     ensures { result ≡ ratio_of n m }
@@ -126,25 +133,33 @@ fn ratio_of(n: u32, m: u32) -> Option<Value>
         return Some(Value::Plain(value));
     }
     let divisor = gcd(all, part);
-    let actual = u8::try_from(all / divisor).ok()?;
+    let actual = all / divisor;
+    if 255 < actual {
+        return None;
+    }
     Some(Value::Tuplet {
         value,
-        actual,
+        actual: actual as u8,
         normal: (part / divisor) as u8,
     })
 }
 
 // The number of 1 to 4 digits worth 1 to 255.
+#[tactic(auto, using(crate::proofs::RatioExits::counts_as))]
 fn counted(digits: &[u8]) -> Option<u32>
     ensures { result ≡ counted_by digits.now }
 {
     if 4 < digits.len() {
         return None;
     }
-    parse(digits).filter(|n| matches!(n, 1..=255))
+    match parse(digits)? {
+        n @ 1..=255 => Some(n),
+        _ => None,
+    }
 }
 
 // The value of a ratio by its digits; None where there is none.
+#[tactic(auto, using(crate::proofs::RatioExits::counted_ratios))]
 pub fn ratio_value(n: &[u8], m: &[u8]) -> Option<Value>
     ensures { result ≡ ratio_value n.now m.now }
 {
