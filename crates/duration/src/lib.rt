@@ -160,7 +160,7 @@ fn counted(digits: &[u8]) -> Option<u32>
 
 // The value of a ratio by its digits; None where there is none.
 #[tactic(auto, using(crate::proofs::RatioExits::counted_ratios))]
-pub fn ratio_value(n: &[u8], m: &[u8]) -> Option<Value>
+fn ratio_value(n: &[u8], m: &[u8]) -> Option<Value>
     ensures { result ≡ ratio_value n.now m.now }
 {
     ratio_of(counted(n)?, counted(m)?)

@@ -1,5 +1,5 @@
 -- A token as items: runs of digits, ratios, runs of one letter, blanks, and single bytes.
-use Rattle.std.specs.Prelude.{ℕ, zero, suc, ◌+◌, List, [], ◌∷◌, Bool, cond, ◌++◌, ◌&&◌, ◌||◌, eqb, length, take, drop, get_or}
+use Rattle.std.specs.Prelude.{ℕ, zero, suc, ◌+◌, List, [], ◌∷◌, Bool, true, false, cond, ◌++◌, ◌&&◌, ◌||◌, eqb, length, take, drop, get_or}
 use Rattle.pitch.specs.Pitch.{within}
 use Rattle.duration.specs.Ratio.{is_ratio, spelled_value}
 use Rattle.items.specs.declared.Item.{Item}
@@ -45,11 +45,15 @@ pieces (r ∷ p ∷ s ∷ rs) = cond (is_number r && is_percent p && is_number s
 abbrev pub pieces_of : List ℕ → List (List ℕ)
 pieces_of token = pieces (runs token)
 
--- what a piece is, by its first byte; a length is known by the value that it writes
+-- a length is known by the value that it writes
+abbrev pub length_item : List ℕ → Item
+length_item s = cond (is_ratio s) (Ratio (spelled_value s)) (Digits (spelled_value s))
+
+-- what a piece is, by its first byte
 unfoldable pub item_of : List ℕ → Item
 item_of [] = Blank
 item_of (x ∷ xs) =
-    cond (is_digit x) (cond (is_ratio (x ∷ xs)) (Ratio (spelled_value (x ∷ xs))) (Digits (spelled_value (x ∷ xs))))
+    cond (is_digit x) (length_item (x ∷ xs))
     (cond (is_letter x) (Letters x (suc (length xs)))
     (cond (eqb x 32) Blank (Mark x)))
 

@@ -2,7 +2,7 @@
 
 // A token as items: runs of digits, ratios, runs of one letter, blanks, and single bytes.
 ghost use Rattle.std.specs.Prelude.{◌≡◌, ℕ, true, false, ◌+◌, ◌<◌, ◌≤◌, length, get_or, drop};
-ghost use Rattle.items.specs.Items.{is_digit, is_letter, first, first_piece, next_item};
+ghost use Rattle.items.specs.Items.{is_digit, is_letter, first, goes_on, first_piece, next_item};
 
 use duration::Value;
 
@@ -66,16 +66,29 @@ pub fn digits_end(token: &[u8], from: usize) -> usize
     end_of(token, from + 1, |b| is_digit(b))
 }
 
-// Where the length ends that begins at an index.
+// Whether a ratio goes on at an index: a `%` stands there, and a digit behind it.
+#[tactic(auto, using(crate::proofs::NextLaws::going_on))]
+fn goes_on(token: &[u8], at: usize) -> bool
+    requires { at ≤ length token.now }
+    ensures { result ≡ goes_on (drop at token.now) }
+{
+    if token.len() <= at + 1 || token[at] != b'%' {
+        return false;
+    }
+    is_digit(token[at + 1])
+}
+
+// The end of the length that begins at an index.
+#[tactic(auto, using(crate::proofs::NextLaws::lengths))]
 pub fn length_end(token: &[u8], from: usize) -> usize
     requires { (from < length token.now) × (is_digit (get_or token.now from 0) ≡ true) }
     ensures { result ≡ from + first_piece (drop from token.now) }
 {
     let end = digits_end(token, from);
-    match token.get(end..) {
-        Some([b'%', b, ..]) if is_digit(*b) => digits_end(token, end + 1),
-        _ => end,
+    if goes_on(token, end) {
+        return digits_end(token, end + 1);
     }
+    end
 }
 
 // The end of the run of a letter that begins at an index.
@@ -87,24 +100,23 @@ pub fn letter_end(token: &[u8], from: usize) -> usize
     end_of(token, from + 1, |b| b == letter)
 }
 
-// The length that begins at an index: a run of digits, or a ratio where a `%` and a digit stand behind it.
+// The length that begins at an index: a run of digits, or a ratio.
+#[tactic(auto, using(crate::proofs::NextLaws::lengths))]
 pub fn length_at(token: &[u8], from: usize) -> Next
     requires { (from < length token.now) × (is_digit (get_or token.now from 0) ≡ true) }
     ensures { result ≡ next_item token.now from }
 {
-    let end = digits_end(token, from);
-    match token.get(end..) {
-        Some([b'%', b, ..]) if is_digit(*b) => {
-            let to = digits_end(token, end + 1);
-            Next {
-                item: Item::Ratio(duration::ratio_value(&token[from..end], &token[end + 1..to])),
-                end: to,
-            }
-        }
-        _ => Next {
-            item: Item::Digits(duration::kern_duration(&token[from..end])),
+    let digits = digits_end(token, from);
+    if goes_on(token, digits) {
+        let end = digits_end(token, digits + 1);
+        return Next {
+            item: Item::Ratio(duration::spelled_value(&token[from..end])),
             end,
-        },
+        };
+    }
+    Next {
+        item: Item::Digits(duration::kern_duration(&token[from..digits])),
+        end: digits,
     }
 }
 
