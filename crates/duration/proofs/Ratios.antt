@@ -120,7 +120,7 @@ pub data RatioOutcome (n m : ℕ) (r : Option Value) : Type 0 where
   too_high : 255 < actual_of n m → r ≡ None → RatioOutcome n m r
 
 -- 1 to 1
-one_to_one : (a b : ℕ) → 0 < a → a ≡ b → a / gcd_of a b ≤ 255
+pub one_to_one : (a b : ℕ) → 0 < a → a ≡ b → a / gcd_of a b ≤ 255
 one_to_one a b some e =
     let g = gcd_of a b in
     let h : a ≤ g = le_of_dvd (gcd_positive b a b some) (gcd_greatest a a b (dvd_refl a) (rw e (dvd_refl b))) in

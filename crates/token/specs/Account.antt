@@ -1,5 +1,5 @@
 -- What the text says of a note token: whether it is one, and how long it lasts, straight from its digits.
-use Rattle.std.specs.Prelude.{ℕ, List, [], ◌∷◌, Bool, false, cond, not, ◌*◌, ◌/◌, ◌^◌, ◌&&◌, ◌||◌, eqb, leb, ltb, length, get_or}
+use Rattle.std.specs.Prelude.{ℕ, List, [], ◌∷◌, Bool, cond, not, ◌*◌, ◌/◌, ◌^◌, ◌&&◌, ◌||◌, eqb, leb, ltb, length, get_or}
 use Rattle.slices.specs.Ascii.{ascii}
 use Rattle.slices.specs.Compare.{same_bytes}
 use Rattle.duration.specs.Duration.{gcd_of, number, counts}

@@ -1,5 +1,5 @@
 -- What a token says, aspect by aspect.
-use Rattle.std.specs.Prelude.{List, false, ℕ, length}
+use Rattle.std.specs.Prelude.{List, ℕ, length}
 use Rattle.slices.specs.Ascii.{ascii}
 use Rattle.items.specs.Items.{items}
 use Rattle.items.specs.declared.Item.{Item}
