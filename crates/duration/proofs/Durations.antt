@@ -32,7 +32,7 @@ longa_value : duration_of (48 ∷ 48 ∷ []) ≡ Some (Plain 0)
 unfolding duration_of same_bytes
 longa_value = refl
 
-worth_value : (s : List ℕ) → Worth s → Some (written (decimal s)) ≡ duration_of s
+pub worth_value : (s : List ℕ) → Worth s → Some (written (decimal s)) ≡ duration_of s
 unfolding decimal
 worth_value s w = go (outcome s)
   where

@@ -207,6 +207,9 @@ fits_below n m hn few l =
     let c : q * (g / 4) * 4 ≡ n * 4 = mul_assoc q (g / 4) 4 ∙ ap (λ (x : ℕ). q * x) f ∙ e ∙ mul_comm 4 n in
     omega (arith, by_four q (g / 4) n (eq_of_mul-eq-mul_right 4 (omega arith) (q * (g / 4)) n c) hn)
 
+pub kept_below : (n m : ℕ) → 0 < n → n ≤ 255 → 0 < m → m ≤ n → ratio_of n m ≡ None → ⊥
+kept_below n m hn few hm l = (kept_ratio n m hn hm).1 (omega arith, fits_below n m hn few l)
+
 -- ---- dots
 dotted_is : (d : ℕ) → d ≤ 3 → (m n : ℕ) → SameLength (dotted d (m over n)) ((m over n) times dot_factor d)
 unfolding dotted added dot_factor

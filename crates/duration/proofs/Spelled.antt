@@ -10,14 +10,15 @@ use Rattle.slices.specs.Finite.{is_true, below}
 use Rattle.slices.specs.Compare.{same_bytes}
 use Rattle.slices.proofs.CompareLaws.{same_is}
 use Rattle.slices.proofs.TestLaws.{clash}
-use Rattle.duration.specs.Duration.{gcd_in, exponent_of, written, written_at, duration_of}
+use Rattle.duration.specs.Duration.{digits, number_from, gcd_in, exponent_of, written, written_at, counts, duration_of}
 use Rattle.duration.specs.Length.{◌over◌, SameLength, note_length}
 use Rattle.duration.specs.Reciprocal.{decimal, reciprocal_length, dotted}
 use Rattle.duration.specs.Ratio.{smallest_of, reduced_at, ratio_at, ratio_of, ratio_value, counted_by, is_ratio, before_percent, behind_percent, spelled_value, spelled_length}
 use Rattle.duration.specs.declared.Value.{Value}
 use Rattle.duration.specs.declared.Value.TheVariants.{Plain, Tuplet}
 use Rattle.std.specs.Prelude.{Option, Some, None}
-use Rattle.duration.proofs.Kept.{Worth}
+use Rattle.duration.proofs.Kept.{Worth, counts_worth}
+use Rattle.duration.proofs.Durations.{worth_value}
 use Rattle.duration.proofs.Lowest.{duration_tuplet, duration_value}
 use Rattle.duration.proofs.Reference.{lasting, reference_agrees}
 use Rattle.duration.proofs.Ratios.{RatioOutcome, plain, tuplet, above, too_high, ratio_outcome, ratio_lasts, kept_ratio, actual_of}
@@ -146,3 +147,12 @@ pub each_one : (n : ℕ) → 1 ≤ n → n ≤ 255 → ratio_of n 1 ≡ Some (wr
 unfolding one_at
 each_one zero low high = absurd (omega arith)
 each_one (suc k) low high = shown_same (ratio_of (suc k) 1) (Some (written (suc k))) (same_is _ _ (is_true _ (one_each k high)))
+
+pub one_value : (s : List ℕ) → Worth s → ratio_value s (49 ∷ []) ≡ duration_of s
+unfolding decimal counts digits number_from
+one_value s w = go (written_is s (49 ∷ []))
+  where
+    go : Written s (49 ∷ []) (ratio_value s (49 ∷ [])) → ratio_value s (49 ∷ []) ≡ duration_of s
+    go (ratio _ _ e) = e ∙ each_one (decimal s) w.low w.high ∙ worth_value s w
+    go (no_n n e) = absurd (n w)
+    go (no_m n e) = absurd (n (counts_worth (49 ∷ []) refl))
