@@ -1,13 +1,13 @@
 -- What a record gives its bare columns: asked for at the first of them, and kept.
 use Rattle.std.specs.Prelude.{◌≡◌, Bool, true, false, List, ℕ, Option, None, IfSome}
 use Rattle.lines.specs.Tokens.{tokens_of}
-use Rattle.duration.specs.Duration.{duration_of}
+use Rattle.duration.specs.Ratio.{spelled_value}
 use Rattle.duration.specs.declared.Value.{Value}
 use Rattle.peers.specs.Peers.{kern_cells, agreed_digits}
 
 -- the value of the digits that the summary of a record gives each bare column
 abbrev pub agreed_in : List ℕ → List ℕ → Option Value
-agreed_in line row = duration_of (agreed_digits (tokens_of line) (kern_cells row))
+agreed_in line row = spelled_value (agreed_digits (tokens_of line) (kern_cells row))
 
 -- what was asked for is that
 abbrev pub Agreed : List ℕ → List ℕ → Option (Option Value) → Type 0

@@ -32,7 +32,7 @@ longa_value : duration_of (48 ∷ 48 ∷ []) ≡ Some (Plain 0)
 unfolding duration_of same_bytes
 longa_value = refl
 
-worth_value : (s : List ℕ) → Worth s → Some (written (decimal s)) ≡ duration_of s
+pub worth_value : (s : List ℕ) → Worth s → Some (written (decimal s)) ≡ duration_of s
 unfolding decimal
 worth_value s w = go (outcome s)
   where
@@ -47,7 +47,7 @@ is_number : (t : Bool) (m n : ℕ) → Some n ≡ cond t (Some m) None → (t �
 is_number true m n e = (refl, cc)
 is_number false m n e = clash cc
 
-some_digit : (s : List ℕ) → 1 ≤ decimal s → 1 ≤ length s
+pub some_digit : (s : List ℕ) → 1 ≤ decimal s → 1 ≤ length s
 unfolding decimal
 some_digit [] h = h
 some_digit (x ∷ s) h = omega arith

@@ -25,7 +25,7 @@ pub record Worth (s : List ℕ) : Type 0 where
   pub low : 1 ≤ decimal s
   pub high : decimal s ≤ 255
 
-counts_worth : (s : List ℕ) → counts s ≡ true → Worth s
+pub counts_worth : (s : List ℕ) → counts s ≡ true → Worth s
 unfolding counts
 counts_worth s e =
     let d = both (digits s && leb 1 (length s) && leb (length s) 4 && leb 1 (number s)) (leb (number s) 255) e in
@@ -40,7 +40,7 @@ counts_worth s e =
       high = rw (← number_decimal s) (leb-true _ _ d.1);
     }
 
-worth_counts : (s : List ℕ) → Worth s → counts s ≡ true
+pub worth_counts : (s : List ℕ) → Worth s → counts s ≡ true
 unfolding counts
 worth_counts s w =
     rw (all_digits_lem s w.each, number_decimal s, le-leb 1 (length s) w.some, le-leb (length s) 4 w.few, le-leb 1 (decimal s) w.low, le-leb (decimal s) 255 w.high)

@@ -4,9 +4,12 @@ pub mod Numbers
 pub mod Divisors
 pub mod Powers
 pub mod Durations
+pub mod RatioExits
 -- theorems
 pub mod Kept
 pub mod Lowest
 pub mod Lengths
 pub mod Reference
+pub mod Ratios
+pub mod Spelled
 pub mod Examples

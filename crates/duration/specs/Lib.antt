@@ -2,3 +2,4 @@
 pub mod Duration
 pub mod Length
 pub mod Reciprocal
+pub mod Ratio

@@ -3,6 +3,7 @@
 // Durations: the value that a reciprocal writes, and how long a note lasts.
 ghost use Rattle.std.specs.Prelude.{◌≡◌, true, List, ℕ, ◌+◌, ◌<◌, ◌≤◌, ◌^◌, length};
 ghost use Rattle.duration.specs.Duration.{digits, number, number_of, gcd_of, written, duration_of};
+ghost use Rattle.duration.specs.Ratio.{smallest_of, ratio_of, counted_by, ratio_value, spelled_value};
 ghost use Rattle.duration.specs.Length.{value_length, dot_factor, tuplet_factor, note_length};
 
 // A written value (0 longa, 1 breve, 2 whole, .. 9 128th) with its tuplet.
@@ -99,6 +100,80 @@ pub fn kern_duration(digits: &[u8]) -> Option<Value>
         return None;
     }
     value_by(parse(digits)?, digits.len())
+}
+
+// The smallest of the ten values that is not below m over n; the longa where none is.
+#[tactic(auto, using(crate::proofs::RatioExits::values))]
+fn smallest(n: u32, m: u32) -> u32
+    requires { (n ≤ 255) × (m ≤ 255) }
+    ensures { result ≡ smallest_of 9 n m }
+{
+    for v in (1..10).rev() {
+        if m << v <= 4 * n {
+            return v;
+        }
+    }
+    0
+}
+
+// The value of the ratio n%m, which lasts m over n; None where it is above 4 or its tuplet doesn't fit.
+#[tactic(auto, using(crate::proofs::RatioExits::ratios))]
+fn ratio_of(n: u32, m: u32) -> Option<Value>
+    requires { (1 ≤ n) × (n ≤ 255) × (m ≤ 255) }
+    ensures { result ≡ ratio_of n m }
+{
+    let all = 4 * n;
+    if all < m {
+        return None;
+    }
+    let v = smallest(n, m);
+    let part = m << v;
+    let value = v as u8;
+    if all == part {
+        return Some(Value::Plain(value));
+    }
+    let divisor = gcd(all, part);
+    let actual = all / divisor;
+    if 255 < actual {
+        return None;
+    }
+    Some(Value::Tuplet {
+        value,
+        actual: actual as u8,
+        normal: (part / divisor) as u8,
+    })
+}
+
+// The number of 1 to 4 digits worth 1 to 255.
+#[tactic(auto, using(crate::proofs::RatioExits::counts_as))]
+fn counted(digits: &[u8]) -> Option<u32>
+    ensures { result ≡ counted_by digits.now }
+{
+    if 4 < digits.len() {
+        return None;
+    }
+    match parse(digits)? {
+        n @ 1..=255 => Some(n),
+        _ => None,
+    }
+}
+
+// The value of a ratio by its digits; None where there is none.
+#[tactic(auto, using(crate::proofs::RatioExits::counted_ratios))]
+fn ratio_value(n: &[u8], m: &[u8]) -> Option<Value>
+    ensures { result ≡ ratio_value n.now m.now }
+{
+    ratio_of(counted(n)?, counted(m)?)
+}
+
+// The value of a length as it is spelled, a reciprocal or a ratio.
+pub fn spelled_value(spelling: &[u8]) -> Option<Value>
+    ensures { result ≡ spelled_value spelling.now }
+{
+    match spelling.iter().position(|b| *b == b'%') {
+        Some(at) => ratio_value(&spelling[..at], &spelling[at + 1..]),
+        None => kern_duration(spelling),
+    }
 }
 
 // A value's length.

@@ -1,7 +1,7 @@
--- The first run of a token, and the loop that finds where a run ends.
+-- The item at an index, and the loop that finds where a run ends.
 use mathlib.Core.Path.{◌≡◌, refl, sym, ap, ◌∙◌}
 use Prim.Native.Nat.{ℕ, zero, suc, ◌+◌, ◌-◌, ◌≤◌, ◌<◌}
-use native.Mathlib.Nat.{not-suc-le-zero, add-zero}
+use native.Mathlib.Nat.{add-zero}
 use native.Mathlib.Numerals.{add-one}
 use native.Mathlib.Omega.{arith}
 use mathlib.Core.List.{List, [], ◌∷◌}
@@ -10,36 +10,12 @@ use lib.Dec.{ltb}
 use borrow.Author.Tests.{ltb-true, ltb-false}
 use lib.ListN.{length, take, drop, get_or, length-drop, drop_of_length-le}
 use lib.Seq.{drop-cons, drop-drop}
-use Rattle.items.specs.Items.{joins, into, runs, item_of, items_of, items, more, first, next_item}
+use Rattle.pitch.specs.Pitch.{within}
+use Rattle.items.specs.Items.{joins, runs, item_of, items_of, pieces, items, more, first, goes_on, first_piece, next_item}
+use Rattle.items.proofs.PieceLaws.{piece_low, first_piece_lem}
 use Rattle.items.specs.declared.Next.{Next}
 use Rattle.items.specs.declared.Item.{Item}
 use Rattle.items.specs.declared.Item.TheVariants.{Blank}
-
--- ---- the first run, and the runs behind it
-run_by : (x y k : ℕ) (ys : List ℕ) (t : Bool) → runs (y ∷ ys) ≡ (y ∷ take k ys) ∷ runs (drop k ys)
-    → cond t ((x ∷ y ∷ take k ys) ∷ runs (drop k ys)) ((x ∷ []) ∷ (y ∷ take k ys) ∷ runs (drop k ys))
-    ≡ (x ∷ take (cond t (suc k) zero) (y ∷ ys)) ∷ runs (drop (cond t (suc k) zero) (y ∷ ys))
-run_by x y k ys true ih = refl
-run_by x y k ys false ih = ap (λ (rs : List (List ℕ)). (x ∷ []) ∷ rs) (sym ih)
-
-run_first : (x : ℕ) (xs : List ℕ) → runs (x ∷ xs) ≡ (x ∷ take (more x xs) xs) ∷ runs (drop (more x xs) xs)
-unfolding runs into more
-run_first x [] = refl
-run_first x (y ∷ ys) = ap (into x) (run_first y ys) ∙ run_by x y (more y ys) ys (joins x y) (run_first y ys)
-
-first_run : (s : List ℕ) → 0 < length s → runs s ≡ take (first s) s ∷ runs (drop (first s) s)
-unfolding first
-first_run [] h = absurd (not-suc-le-zero h)
-first_run (x ∷ xs) h = run_first x xs
-
-more_by : (k n : ℕ) (t : Bool) → k ≤ n → cond t (suc k) zero ≤ suc n
-more_by k n true h = omega arith
-more_by k n false h = omega arith
-
-more_low : (x : ℕ) (xs : List ℕ) → more x xs ≤ length xs
-unfolding more
-more_low x [] = omega arith
-more_low x (y ∷ ys) = more_by (more y ys) (length ys) (joins x y) (more_low y ys)
 
 -- ---- the item at an index
 pub record At (s : List ℕ) (i : ℕ) (n : Next) : Type 0 where
@@ -47,24 +23,19 @@ pub record At (s : List ℕ) (i : ℕ) (n : Next) : Type 0 where
   pub high : n.end ≤ length s
   pub same : items (drop i s) ≡ n.item ∷ items (drop n.end s)
 
-first_low : (s : List ℕ) → 0 < length s → (0 < first s) × (first s ≤ length s)
-unfolding first
-first_low [] h = absurd (not-suc-le-zero h)
-first_low (x ∷ xs) h = omega (arith, more_low x xs)
-
 pub next_at : {s : List ℕ} {i : ℕ} {n : Next} → i < length s → n ≡ next_item s i → At s i n
 unfolding next_item items_of
 next_at {s} {i} {n} h e =
     let l : 0 < length (drop i s) = omega (arith, length-drop i s) in
-    let f = first_low (drop i s) l in
+    let f = piece_low (drop i s) l in
     rw e (record {
       on = omega arith;
       high = omega (arith, length-drop i s);
-      same = ap items_of (first_run (drop i s) l) ∙ ap (λ (r : List ℕ). item_of (take (first (drop i s)) (drop i s)) ∷ items r) (drop-drop (first (drop i s)) i s);
+      same = ap items_of (first_piece_lem (drop i s) l) ∙ ap (λ (r : List ℕ). item_of (take (first_piece (drop i s)) (drop i s)) ∷ items r) (drop-drop (first_piece (drop i s)) i s);
     })
 
 pub no_items : (s : List ℕ) {i : ℕ} → length s ≤ i → items (drop i s) ≡ []
-unfolding items_of runs
+unfolding items_of pieces runs
 no_items s h = ap items (drop_of_length-le s h)
 
 -- ---- the loop of `run_end`: the byte before e is the last that is known to be of the run
@@ -126,15 +97,15 @@ run_to s from e low high each stop = past (ltb e (length s)) refl
 
 -- ---- what `next_item` answers
 pub next_none : (s : List ℕ) (from : ℕ) → length s ≤ from → record { item = Blank; end = from } ≡ next_item s from
-unfolding next_item first item_of
+unfolding next_item first_piece first goes_on item_of within
 next_none s from h =
     let n : drop from s ≡ [] = drop_of_length-le s {i = from} (omega arith) in
     let z : from ≡ from + 0 = omega arith in
     sym (rw (n, ← z))
 
-pub next_is : (s : List ℕ) (from : ℕ) {e : ℕ} {r : Item} → e ≡ from + first (drop from s) → r ≡ item_of (take (e - from) (drop from s))
+pub next_is : (s : List ℕ) (from : ℕ) {e : ℕ} {r : Item} → e ≡ from + first_piece (drop from s) → r ≡ item_of (take (e - from) (drop from s))
     → record { item = r; end = e } ≡ next_item s from
 unfolding next_item
 next_is s from {e} {r} p q =
-    let k : e - from ≡ first (drop from s) = omega arith in
+    let k : e - from ≡ first_piece (drop from s) = omega arith in
     rw (q, k, p)

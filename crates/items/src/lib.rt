@@ -1,14 +1,15 @@
 #![tactic(auto)]
 
-// A token as items: runs of digits, runs of one letter, blanks, and single bytes.
+// A token as items: runs of digits, ratios, runs of one letter, blanks, and single bytes.
 ghost use Rattle.std.specs.Prelude.{◌≡◌, ℕ, true, false, ◌+◌, ◌<◌, ◌≤◌, length, get_or, drop};
-ghost use Rattle.items.specs.Items.{is_digit, is_letter, first, next_item};
+ghost use Rattle.items.specs.Items.{is_digit, is_letter, first, goes_on, first_piece, next_item};
 
 use duration::Value;
 
 #[derive(Clone, Copy, PartialEq, Eq, Debug)]
 pub enum Item {
     Digits(Option<Value>),
+    Ratio(Option<Value>),
     Letters { letter: u8, count: usize },
     Blank,
     Mark(u8),
@@ -65,6 +66,31 @@ pub fn digits_end(token: &[u8], from: usize) -> usize
     end_of(token, from + 1, |b| is_digit(b))
 }
 
+// Whether a ratio goes on at an index: a `%` stands there, and a digit behind it.
+#[tactic(auto, using(crate::proofs::NextLaws::going_on))]
+fn goes_on(token: &[u8], at: usize) -> bool
+    requires { at ≤ length token.now }
+    ensures { result ≡ goes_on (drop at token.now) }
+{
+    if token.len() <= at + 1 || token[at] != b'%' {
+        return false;
+    }
+    is_digit(token[at + 1])
+}
+
+// The end of the length that begins at an index.
+#[tactic(auto, using(crate::proofs::NextLaws::lengths))]
+pub fn length_end(token: &[u8], from: usize) -> usize
+    requires { (from < length token.now) × (is_digit (get_or token.now from 0) ≡ true) }
+    ensures { result ≡ from + first_piece (drop from token.now) }
+{
+    let end = digits_end(token, from);
+    if goes_on(token, end) {
+        return digits_end(token, end + 1);
+    }
+    end
+}
+
 // The end of the run of a letter that begins at an index.
 pub fn letter_end(token: &[u8], from: usize) -> usize
     requires { (from < length token.now) × (is_letter (get_or token.now from 0) ≡ true) }
@@ -72,6 +98,26 @@ pub fn letter_end(token: &[u8], from: usize) -> usize
 {
     let letter = token[from];
     end_of(token, from + 1, |b| b == letter)
+}
+
+// The length that begins at an index: a run of digits, or a ratio.
+#[tactic(auto, using(crate::proofs::NextLaws::lengths))]
+pub fn length_at(token: &[u8], from: usize) -> Next
+    requires { (from < length token.now) × (is_digit (get_or token.now from 0) ≡ true) }
+    ensures { result ≡ next_item token.now from }
+{
+    let digits = digits_end(token, from);
+    if goes_on(token, digits) {
+        let end = digits_end(token, digits + 1);
+        return Next {
+            item: Item::Ratio(duration::spelled_value(&token[from..end])),
+            end,
+        };
+    }
+    Next {
+        item: Item::Digits(duration::kern_duration(&token[from..digits])),
+        end: digits,
+    }
 }
 
 // The item that begins at an index.
@@ -87,12 +133,7 @@ pub fn next_item(token: &[u8], from: usize) -> Next
     }
     let b = token[from];
     if is_digit(b) {
-        let end = digits_end(token, from);
-        let value = duration::kern_duration(&token[from..end]);
-        return Next {
-            item: Item::Digits(value),
-            end,
-        };
+        return length_at(token, from);
     }
     if is_letter(b) {
         let end = letter_end(token, from);

@@ -3,7 +3,7 @@ use Rattle.std.specs.Prelude.{ℕ, List, [], ◌∷◌, Option, None}
 use Rattle.pitch.specs.Pitch.{pitch_of, twos_complement}
 use Rattle.items.specs.Items.{items}
 use Rattle.items.specs.declared.Item.{Item}
-use Rattle.items.specs.declared.Item.TheVariants.{Digits, Letters, Blank, Mark}
+use Rattle.items.specs.declared.Item.TheVariants.{Digits, Ratio, Letters, Blank, Mark}
 use Rattle.token.specs.Token.{articulations_of, begun, signed, given, signifiers_of}
 use Rattle.token.specs.Outcome.{note_pitches}
 use Rattle.token.specs.declared.pitches.Tone.{Tone}
@@ -32,12 +32,14 @@ sound_bytes s = tone_bytes (given s)
 
 abbrev pub ended_by : Option Tone → Item → List ℕ
 ended_by s (Digits v) = []
+ended_by s (Ratio v) = []
 ended_by s (Letters c n) = []
 ended_by s Blank = sound_bytes s
 ended_by s (Mark b) = []
 
 abbrev pub sound_after : Option Tone → Item → Option Tone
 sound_after s (Digits v) = s
+sound_after s (Ratio v) = s
 sound_after s (Letters c n) = begun s (pitch_of c n)
 sound_after s Blank = None
 sound_after s (Mark b) = signed s b

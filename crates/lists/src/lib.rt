@@ -72,7 +72,7 @@ pub fn fill_signifiers(out: &mut [u8], token: &[u8])
     while i < token.len() {
         let b = token[i];
         if items::is_digit(b) {
-            i = items::digits_end(token, i);
+            i = items::length_end(token, i);
             continue;
         }
         if items::is_letter(b) {
@@ -169,7 +169,7 @@ pub fn fill_pitches(out: &mut [u8], token: &[u8])
     while i < token.len() {
         let b = token[i];
         if items::is_digit(b) {
-            i = items::digits_end(token, i);
+            i = items::length_end(token, i);
             continue;
         }
         if items::is_letter(b) {

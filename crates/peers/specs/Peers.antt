@@ -1,11 +1,11 @@
 -- The length that a token without one takes from its record: "missing lengths `uniform_peer_reciprocal`".
-use Rattle.std.specs.Prelude.{◌≡◌, ℕ, suc, List, [], ◌∷◌, Bool, true, false, cond, not, ◌&&◌, ◌||◌, eqb, leb, length, Option, Some, None}
+use Rattle.std.specs.Prelude.{◌≡◌, ℕ, suc, List, [], ◌∷◌, Bool, true, false, cond, not, ◌&&◌, ◌||◌, eqb, leb, length, take, drop, Option, Some, None}
 use Rattle.std.specs.Borrow.{Bor}
 use Rattle.slices.specs.Compare.{same_bytes}
-use Rattle.duration.specs.Duration.{duration_of}
+use Rattle.duration.specs.Ratio.{spelled_value}
 use Rattle.duration.specs.declared.Value.{Value}
 use Rattle.notation.specs.Bytes.{contains, trim_start}
-use Rattle.items.specs.Items.{is_digit, is_letter}
+use Rattle.items.specs.Items.{is_digit, is_letter, first_piece}
 use Rattle.token.specs.Token.{signs}
 
 -- ---- `plain_pitch_without_duration`: one run of a letter, followed by nothing but signs
@@ -18,10 +18,10 @@ is_bare [] = false
 is_bare (x ∷ xs) = is_letter x && only_signs (trim_start x (x ∷ xs))
 
 -- ---- `uniform_peer_reciprocal`
--- the digits that a token begins with
+-- the length that a token begins with, as it is spelled: digits, or a ratio; none where no digit begins it
 unfoldable pub leading : List ℕ → List ℕ
 leading [] = []
-leading (x ∷ xs) = cond (is_digit x) (x ∷ leading xs) []
+leading (x ∷ xs) = cond (is_digit x) (take (first_piece (x ∷ xs)) (x ∷ xs)) []
 
 -- a blank, a point or a `%` anywhere
 unfoldable pub forbids : List ℕ → Bool
@@ -31,11 +31,12 @@ abbrev pub if_value : Option Value → List ℕ → List ℕ
 if_value None ds = []
 if_value (Some v) ds = ds
 
--- the digits that a neighbour offers: those that it begins with, if more follows and they have a value; else none
+-- what a neighbour offers: the length that it begins with, if more follows, in which nothing forbids it, and if it has a value; else none. "Among
+-- neighbours a ratio counts as a reciprocal does, by its spelling."
 unfoldable pub offer_of : List ℕ → List ℕ
 offer_of t =
-    cond (forbids t) []
-    (cond (eqb (length (leading t)) (length t)) [] (if_value (duration_of (leading t)) (leading t)))
+    cond (forbids (drop (length (leading t)) t)) []
+    (cond (eqb (length (leading t)) (length t)) [] (if_value (spelled_value (leading t)) (leading t)))
 
 -- the tokens of the kern columns other than `column`, where the first is column i
 unfoldable pub peers_from : ℕ → ℕ → List (List ℕ) → List Bool → List (List ℕ)
@@ -67,11 +68,11 @@ abbrev pub digits_of : Option (Bor (List ℕ)) → List ℕ
 digits_of None = []
 digits_of (Some ds) = ds.now
 
--- what is kept of digits that a token offers: some, all of them digits, with a value
+-- what is kept of a length that a token offers: some bytes, all of them of its spelling, with a value
 pub record Offered (ds : List ℕ) : Type 0 where
   pub some : length ds ≡ 0 → ⊥
   pub digits : leading ds ≡ ds
-  pub valued : if_value (duration_of ds) ds ≡ ds
+  pub valued : if_value (spelled_value ds) ds ≡ ds
 
 -- ---- one neighbour after the other
 pub data Tally : Type 0 where

@@ -2,21 +2,21 @@
 
 // The length that a token without one takes from its record.
 ghost use Rattle.std.specs.Prelude.{◌≡◌, [], MatchOption};
-ghost use Rattle.duration.specs.Duration.{duration_of};
+ghost use Rattle.duration.specs.Ratio.{spelled_value};
 ghost use Rattle.lines.specs.Tokens.{tokens_of};
 ghost use Rattle.slices.specs.Compare.{same_bytes};
 ghost use Rattle.peers.specs.Peers.{only_signs, is_bare, forbids, offer_of, Offered, met, column_met, settled, kern_cells, agreed_digits, digits_of};
 
 use duration::Value;
 
-// Digits that a token offers.
+// A length that a token offers, as it is spelled.
 #[derive(Clone, Copy)]
 struct Digits<'a> {
     bytes: &'a [u8],
     ghost offered: { Offered bytes.now },
 }
 
-// What was met so far: no neighbour; one, or more, with their digits; or neighbours that don't agree.
+// What was met so far: no neighbour; one, or more, with their length; or neighbours that don't agree.
 #[derive(Clone, Copy)]
 enum Found<'a> {
     Empty,
@@ -56,22 +56,23 @@ fn forbids(token: &[u8]) -> bool
     token.iter().any(|b| matches!(b, b' ' | b'.' | b'%'))
 }
 
-// The digits that a neighbour offers.
+// The length that a neighbour offers.
 fn offer(token: &[u8]) -> Option<Digits<'_>>
     ensures { MatchOption result (offer_of token.now ≡ []) (λ o. o.bytes.now ≡ offer_of token.now) }
 {
-    let end = token.iter().position(|b| !items::is_digit(*b))?;
-    let bytes = &token[..end];
-    duration::kern_duration(bytes)?;
-    if forbids(token) {
-        None
-    } else {
-        Some(Digits { bytes })
+    if !items::is_digit(*token.first()?) {
+        return None;
     }
+    let (bytes, rest) = token.split_at(items::length_end(token, 0));
+    if rest.is_empty() || forbids(rest) {
+        return None;
+    }
+    duration::spelled_value(bytes)?;
+    Some(Digits { bytes })
 }
 
 impl<'a> Digits<'a> {
-    // Whether a neighbour offers the same digits.
+    // Whether a neighbour offers a length spelled the same way.
     fn agrees(&self, token: &[u8]) -> bool
         ensures { result ≡ same_bytes (offer_of token.now) self.now.bytes.now }
     {
@@ -81,7 +82,7 @@ impl<'a> Digits<'a> {
         let Some(next) = rest.first() else {
             return false;
         };
-        !items::is_digit(*next) && !forbids(token)
+        !items::is_digit(*next) && !forbids(rest)
     }
 }
 
@@ -167,7 +168,7 @@ pub fn agreed_reciprocal<'a>(line: &'a [u8], row: &[u16]) -> Option<&'a [u8]>
 
 // The value of those digits, None where there are none.
 pub fn agreed_duration(line: &[u8], row: &[u16]) -> Option<Value>
-    ensures { result ≡ duration_of (agreed_digits (tokens_of line.now) (kern_cells row.now)) }
+    ensures { result ≡ spelled_value (agreed_digits (tokens_of line.now) (kern_cells row.now)) }
 {
-    agreed_reciprocal(line, row).and_then(duration::kern_duration)
+    agreed_reciprocal(line, row).and_then(duration::spelled_value)
 }

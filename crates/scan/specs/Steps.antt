@@ -4,12 +4,14 @@ use Rattle.slices.specs.Ascii.{ascii}
 use Rattle.notation.specs.Bytes.{contains}
 use Rattle.pitch.specs.Pitch.{pitch_of}
 use Rattle.items.specs.declared.Item.{Item}
-use Rattle.items.specs.declared.Item.TheVariants.{Digits, Letters, Blank, Mark}
+use Rattle.items.specs.declared.Item.TheVariants.{Digits, Ratio, Letters, Blank, Mark}
 use Rattle.duration.specs.declared.Value.{Value}
+use Rattle.token.specs.declared.scan.Before.{Before}
+use Rattle.token.specs.declared.scan.Before.TheVariants.{Nothing as Nothing_before, Right, Further, Ratio as Ratio_before}
 use Rattle.token.specs.declared.scan.Given.{Given}
 use Rattle.token.specs.declared.scan.Given.TheVariants.{Nothing, NoValue, Length}
 use Rattle.token.specs.declared.scan.Scan.{Scan}
-use Rattle.token.specs.Token.{given_by, grace_by, articulation, fits, passes, is_unknown}
+use Rattle.token.specs.Token.{is_nothing, passed, percent_bad, given_by, grace_by, articulation, fits, passes, is_unknown}
 use Rattle.scan.specs.declared.Lengths.{Lengths}
 use Rattle.scan.specs.declared.First.{First}
 use Rattle.scan.specs.declared.Sounds.{Sounds}
@@ -23,10 +25,11 @@ pub record Unknowns (token : List ℕ) (from end : ℕ) : Type 0 where
 
 -- ---- one item more
 abbrev pub step_lengths : Lengths → Item → Lengths
-step_lengths l (Digits v) = record { had = true; behind = true; bad = l.bad || l.had }
-step_lengths l (Letters c n) = record { had = l.had; behind = false; bad = l.bad }
-step_lengths l Blank = record { had = false; behind = false; bad = l.bad }
-step_lengths l (Mark b) = record { had = l.had; behind = false; bad = cond (eqb b 37) (l.bad || l.behind) l.bad }
+step_lengths l (Digits v) = record { later = l.later; begun = true; before = Right; bad = l.bad || not (is_nothing l.before) }
+step_lengths l (Ratio v) = record { later = l.later; begun = true; before = Ratio_before; bad = l.bad || (not (is_nothing l.before) || l.later) }
+step_lengths l (Letters c n) = record { later = l.later; begun = true; before = passed l.before; bad = l.bad }
+step_lengths l Blank = record { later = l.later || l.begun; begun = false; before = Nothing_before; bad = l.bad }
+step_lengths l (Mark b) = record { later = l.later; begun = true; before = passed l.before; bad = cond (eqb b 37) (l.bad || percent_bad l.before) l.bad }
 
 abbrev pub or_given : Given → Option Value → Given
 or_given Nothing v = given_by v
@@ -45,6 +48,7 @@ ended_first f = record { begun = f.begun; over = f.begun; given = f.given; dots 
 
 abbrev pub step_first : First → Item → First
 step_first f (Digits v) = cond f.over f (inside_first (or_given f.given v) f.dots f.rest)
+step_first f (Ratio v) = cond f.over f (inside_first (or_given f.given v) f.dots f.rest)
 step_first f (Letters c n) = cond f.over f (inside_first f.given f.dots f.rest)
 step_first f Blank = ended_first f
 step_first f (Mark b) = cond f.over f (inside_first f.given (dots_by f.dots b) (f.rest || eqb b 114))
@@ -57,12 +61,14 @@ sounded s = record { sounding = true; pitches = s.pitches + 1; signifiers = s.si
 
 abbrev pub step_sounds : Sounds → Item → Sounds
 step_sounds s (Digits v) = s
+step_sounds s (Ratio v) = s
 step_sounds s (Letters c n) = cond (fits s.sounding (pitch_of c n)) (sounded s) (with_unknown s 1)
 step_sounds s Blank = record { sounding = false; pitches = s.pitches; signifiers = s.signifiers }
 step_sounds s (Mark b) = cond (passes s.sounding b) s (with_unknown s 1)
 
 abbrev pub step_marks : Marks → Item → Marks
 step_marks m (Digits v) = m
+step_marks m (Ratio v) = m
 step_marks m (Letters c n) = m
 step_marks m Blank = m
 step_marks m (Mark b) =

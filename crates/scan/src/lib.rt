@@ -6,19 +6,20 @@ pub mod outcome;
 ghost use Rattle.std.specs.Prelude.{◌≡◌, true, cond, ◌||◌, ◌+◌, ◌≤◌, ◌<◌, eqb, ltb, length, get_or, [], ◌∷◌, MatchOption};
 ghost use Rattle.notation.specs.Bytes.{contains};
 ghost use Rattle.pitch.specs.Pitch.{pitch_of};
-ghost use Rattle.token.specs.Token.{fits, signs, known, passes, is_unknown, grace_by, articulation};
+ghost use Rattle.token.specs.Token.{passed, fits, signs, known, passes, is_unknown, grace_by, articulation};
 ghost use Rattle.token.specs.Scan.{scan_of};
 ghost use Rattle.scan.specs.Steps.{Unknowns, step_lengths, or_given, dots_by, inside_first, ended_first, step_first, step_sounds, step_marks, with_unknown, no_first, no_marks, collected};
 
 use duration::Value;
 use items::Item;
-use token::scan::{Given, Scan};
+use token::scan::{Before, Given, Scan};
 
-// Whether digits stand before in the sub-token, and right before; whether a length was bad.
+// Whether a sub-token that isn't empty stands further left; whether this one has an item, and what length stands before in it; whether one was bad.
 #[derive(Clone, Copy, PartialEq, Eq, Debug)]
 pub struct Lengths {
-    pub had: bool,
-    pub behind: bool,
+    pub later: bool,
+    pub begun: bool,
+    pub before: Before,
     pub bad: bool,
 }
 
@@ -51,26 +52,49 @@ pub struct Marks {
     pub articulations: usize,
 }
 
-// One item more for the lengths: a second run of digits and a `%` right behind digits are bad.
+// What stands before once another item stands between.
+fn passed(before: Before) -> Before
+    ensures { result ≡ passed before }
+{
+    match before {
+        Before::Right => Before::Further,
+        _ => before,
+    }
+}
+
+// One item more for the lengths: a second length is bad, a ratio behind the first sub-token, and a `%` right behind digits or behind a ratio.
 #[tactic(auto, using(std::proofs::lemmas::Bool::Decides::nat_tests))]
 fn step_lengths(l: Lengths, item: Item) -> Lengths
     ensures { result ≡ step_lengths l item }
 {
     match item {
         Item::Digits(_) => Lengths {
-            had: true,
-            behind: true,
-            bad: l.bad || l.had,
+            begun: true,
+            before: Before::Right,
+            bad: l.bad || l.before != Before::Nothing,
+            ..l
         },
-        Item::Letters { .. } => Lengths { behind: false, ..l },
+        Item::Ratio(_) => Lengths {
+            begun: true,
+            before: Before::Ratio,
+            bad: l.bad || l.before != Before::Nothing || l.later,
+            ..l
+        },
+        Item::Letters { .. } => Lengths {
+            begun: true,
+            before: passed(l.before),
+            ..l
+        },
         Item::Blank => Lengths {
-            had: false,
-            behind: false,
+            later: l.later || l.begun,
+            begun: false,
+            before: Before::Nothing,
             ..l
         },
         Item::Mark(b) => Lengths {
-            behind: false,
-            bad: l.bad || (b == b'%' && l.behind),
+            begun: true,
+            before: passed(l.before),
+            bad: l.bad || (b == b'%' && matches!(l.before, Before::Right | Before::Ratio)),
             ..l
         },
     }
@@ -107,7 +131,7 @@ fn step_first(f: First, item: Item) -> First
     match item {
         Item::Blank => First { over: f.begun, ..f },
         _ if f.over => f,
-        Item::Digits(v) => First {
+        Item::Digits(v) | Item::Ratio(v) => First {
             begun: true,
             given: or_given(f.given, v),
             ..f
@@ -217,7 +241,7 @@ fn step_sounds(s: Sounds, item: Item) -> Sounds
     ensures { result ≡ step_sounds s item }
 {
     match item {
-        Item::Digits(_) => s,
+        Item::Digits(_) | Item::Ratio(_) => s,
         Item::Letters { letter, count } if fits(s.sounding, letter, count) => Sounds {
             sounding: true,
             pitches: s.pitches + 1,
@@ -284,8 +308,9 @@ pub fn scan_token(token: &[u8]) -> Scan
     ensures { result ≡ scan_of token.now }
 {
     let mut lengths = Lengths {
-        had: false,
-        behind: false,
+        later: false,
+        begun: false,
+        before: Before::Nothing,
         bad: false,
     };
     let mut first = First {
@@ -313,11 +338,10 @@ pub fn scan_token(token: &[u8]) -> Scan
     while i < token.len() {
         let b = token[i];
         if items::is_digit(b) {
-            let end = items::digits_end(token, i);
-            let item = Item::Digits(duration::kern_duration(&token[i..end]));
-            lengths = step_lengths(lengths, item);
-            first = step_first(first, item);
-            i = end;
+            let next = items::length_at(token, i);
+            lengths = step_lengths(lengths, next.item);
+            first = step_first(first, next.item);
+            i = next.end;
             continue;
         }
         if items::is_letter(b) {

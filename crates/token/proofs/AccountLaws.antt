@@ -1,28 +1,32 @@
 -- What the reading makes of a token is what the text says: a note where it says so, of the same length.
 use mathlib.Core.Path.{◌≡◌, refl, sym, ap, subst, ◌∙◌}
-use Prim.Native.Nat.{ℕ, suc, ◌≤◌}
+use Prim.Native.Nat.{ℕ, suc, ◌*◌, ◌^◌, ◌≤◌}
 use native.Mathlib.Omega.{arith}
 use mathlib.Core.List.{List, [], ◌∷◌}
 use mathlib.Core.Bool.{Bool, true, false, cond, not, ◌&&◌, ◌||◌}
-use lib.Dec.{eqb, ltb}
+use lib.Dec.{eqb, leb, ltb}
 use lib.ListN.{length, get_or}
-use borrow.Author.Tests.{eqb-true, eqb-false, lt-ltb, le-ltb}
+use borrow.Author.Tests.{eqb-true, eqb-false, le-leb, lt-ltb, le-ltb}
 use Rattle.slices.specs.Compare.{same_bytes}
 use Rattle.duration.specs.Duration.{number, counts, written, duration_of}
 use Rattle.duration.specs.Length.{Fraction, ◌over◌, SameLength, note_length}
-use Rattle.duration.specs.Reciprocal.{reciprocal_length, dotted}
+use Rattle.duration.specs.Reciprocal.{dotted}
+use Rattle.duration.specs.Ratio.{smallest_of, reduced_at, ratio_at, ratio_of, ratio_value, is_ratio, before_percent, behind_percent, spelled_value, spelled_length}
 use Rattle.duration.specs.declared.Value.{Value}
 use Rattle.duration.specs.declared.Value.TheVariants.{Plain, Tuplet}
 use Rattle.std.specs.Prelude.{Option, Some, None, Ok, Err}
 use Rattle.duration.proofs.Lengths.{grace_length}
-use Rattle.duration.proofs.Reference.{plain_agrees, tuplet_agrees}
-use Rattle.items.specs.Items.{is_digit, is_letter, runs, item_of, items_of, items}
+use Rattle.duration.proofs.Numbers.{number_decimal}
+use Rattle.duration.proofs.Kept.{counts_worth}
+use Rattle.duration.proofs.Ratios.{one_to_one}
+use Rattle.duration.proofs.Spelled.{plain_spelled, tuplet_spelled}
+use Rattle.items.specs.Items.{is_digit, is_letter, pieces_of, length_item, item_of, items_of, items}
 use Rattle.items.specs.declared.Item.{Item}
-use Rattle.items.specs.declared.Item.TheVariants.{Digits, Letters, Blank, Mark}
-use Rattle.token.specs.Token.{is_blank, bad_length, given_by, up_to_blank, first_sub, given_in, is_silent, dots_of, rest_of, pitches_of, articulations_of}
+use Rattle.items.specs.declared.Item.TheVariants.{Digits, Ratio, Letters, Blank, Mark}
+use Rattle.token.specs.Token.{is_blank, is_bad, given_by, up_to_blank, first_sub, given_in, is_silent, dots_of, rest_of, pitches_of, articulations_of}
 use Rattle.token.specs.Scan.{scan_items, scan_of}
 use Rattle.token.specs.Outcome.{Outcome, note_of, by_value, noted, from_peers, without_digits, by_given, measured, outcome_of, read_token, note_pitches}
-use Rattle.token.specs.Account.{digits_in, first_digits, has_value, or_peers, has_length, is_grace, is_note, account_length}
+use Rattle.token.specs.Account.{digits_in, first_digits, reciprocal_counts, tuplet_fits, ratio_counts, has_value, or_peers, has_length, is_grace, is_note, account_length}
 use Rattle.token.specs.declared.scan.Scan.{Scan}
 use Rattle.token.specs.declared.scan.Given.{Given}
 use Rattle.token.specs.declared.scan.Given.TheVariants.{Nothing, NoValue, Length}
@@ -31,14 +35,14 @@ use Rattle.token.specs.declared.outcome.Note.{Note}
 use Rattle.token.specs.declared.outcome.Unread.{Unread}
 use Rattle.token.specs.declared.outcome.Unread.TheVariants.{BadLength, NoPitch, BadReciprocal, NoLength}
 
--- ---- the digits of the first sub-token, as bytes and as the value that they write
+-- ---- the length of the first sub-token, as it is spelled and as its value
 abbrev value_of : List ℕ → Given
 value_of [] = Nothing
-value_of (x ∷ xs) = given_by (duration_of (x ∷ xs))
+value_of (x ∷ xs) = given_by (spelled_value (x ∷ xs))
 
--- a run by its kind
+-- a piece by its kind
 data Kind (r : List ℕ) : Type 0 where
-  digits : {x : ℕ} {xs : List ℕ} → r ≡ x ∷ xs → is_digit x ≡ true → item_of r ≡ Digits (duration_of r) → Kind r
+  digits : {x : ℕ} {xs : List ℕ} → r ≡ x ∷ xs → is_digit x ≡ true → item_of r ≡ length_item r → Kind r
   blank : item_of r ≡ Blank → Kind r
   letters : {c n : ℕ} → is_digit (get_or r 0 0) ≡ false → item_of r ≡ Letters c n → Kind r
   mark : {b : ℕ} → is_digit (get_or r 0 0) ≡ false → item_of r ≡ Mark b → Kind r
@@ -54,6 +58,21 @@ kind (x ∷ xs) = go (is_digit x) (is_letter x) (eqb x 32) refl refl refl
     go false false true p q s = blank (rw (p, q, s))
     go false false false p q s = mark {b = x} p (rw (p, q, s))
 
+no_blank : (r : List ℕ) → is_blank (length_item r) ≡ false
+no_blank r = go (is_ratio r)
+  where
+    go : (t : Bool) → is_blank (cond t (Ratio (spelled_value r)) (Digits (spelled_value r))) ≡ false
+    go true = refl
+    go false = refl
+
+given_length : (r : List ℕ) (is : List Item) → given_in (length_item r ∷ is) ≡ given_by (spelled_value r)
+unfolding given_in
+given_length r is = go (is_ratio r)
+  where
+    go : (t : Bool) → given_in (cond t (Ratio (spelled_value r)) (Digits (spelled_value r)) ∷ is) ≡ given_by (spelled_value r)
+    go true = refl
+    go false = refl
+
 digits_in_lem : (rs : List (List ℕ)) → given_in (up_to_blank (items_of rs)) ≡ value_of (digits_in rs)
 unfolding items_of up_to_blank given_in digits_in
 digits_in_lem [] = refl
@@ -62,7 +81,7 @@ digits_in_lem (r ∷ rs) = go (kind r) (digits_in_lem rs)
     go : Kind r → given_in (up_to_blank (items_of rs)) ≡ value_of (digits_in rs)
         → given_in (cond (is_blank (item_of r)) [] (item_of r ∷ up_to_blank (items_of rs)))
         ≡ value_of (cond (is_blank (item_of r)) [] (cond (is_digit (get_or r 0 0)) r (digits_in rs)))
-    go (digits p q e) ih = rw (e, p, q)
+    go (digits p q e) ih = rw (e, no_blank r) (given_length r (up_to_blank (items_of rs)) ∙ rw (p, q))
     go (blank e) ih = rw e
     go (letters q e) ih = rw (e, q) ih
     go (mark q e) ih = rw (e, q) ih
@@ -82,15 +101,44 @@ abbrev is_value : Option Value → Bool
 is_value None = false
 is_value (Some v) = true
 
-has_value_lem : (s : List ℕ) → is_value (duration_of s) ≡ has_value s
-unfolding duration_of has_value
-has_value_lem s = go (same_bytes (48 ∷ []) s) (same_bytes (48 ∷ 48 ∷ []) s) (counts s)
+-- a ratio has a value by the account's tests: 1 to 1 always fits
+ratio_fits : (n m : List ℕ) → eqb (4 * number n) (number m * 2 ^ smallest_of 9 (number n) (number m)) ≡ true → counts n ≡ true → tuplet_fits (number n) (number m) ≡ true
+unfolding tuplet_fits
+ratio_fits n m e c =
+    let w = counts_worth n c in
+    le-leb _ _ (one_to_one (4 * number n) (number m * 2 ^ smallest_of 9 (number n) (number m)) (omega (arith, w.low, number_decimal n)) (eqb-true _ _ e))
+
+ratio_has : (n m : List ℕ) → is_value (ratio_value n m) ≡ ratio_counts n m
+unfolding ratio_value ratio_of ratio_at reduced_at ratio_counts tuplet_fits
+ratio_has n m =
+    go (counts n) (counts m) (leb (number m) (4 * number n)) (eqb (4 * number n) (number m * 2 ^ smallest_of 9 (number n) (number m))) (tuplet_fits (number n) (number m)) (ratio_fits n m) _ _
+  where
+    go : (a b c d e : Bool) → (d ≡ true → a ≡ true → e ≡ true) → (x y : Value)
+        → is_value (cond (a && b) (cond c (cond d (Some x) (cond e (Some y) None)) None) None) ≡ (a && (b && (c && e)))
+    go false b c d e h x y = refl
+    go true false c d e h x y = refl
+    go true true false d e h x y = refl
+    go true true true true e h x y = sym (h refl refl)
+    go true true true false true h x y = refl
+    go true true true false false h x y = refl
+
+reciprocal_has : (s : List ℕ) → is_value (duration_of s) ≡ reciprocal_counts s
+unfolding duration_of reciprocal_counts
+reciprocal_has s = go (same_bytes (48 ∷ []) s) (same_bytes (48 ∷ 48 ∷ []) s) (counts s)
   where
     go : (a b c : Bool) → is_value (cond a (Some (Plain 1)) (cond b (Some (Plain 0)) (cond c (Some (written (number s))) None))) ≡ (a || (b || c))
     go true b c = refl
     go false true c = refl
     go false false true = refl
     go false false false = refl
+
+has_value_lem : (s : List ℕ) → is_value (spelled_value s) ≡ has_value s
+unfolding spelled_value has_value
+has_value_lem s = go (is_ratio s)
+  where
+    go : (t : Bool) → is_value (cond t (ratio_value (before_percent s) (behind_percent s)) (duration_of s)) ≡ cond t (ratio_counts (before_percent s) (behind_percent s)) (reciprocal_counts s)
+    go true = ratio_has (before_percent s) (behind_percent s)
+    go false = reciprocal_has s
 
 abbrev pub is_heard : Outcome → Bool
 is_heard (Ok None) = false
@@ -114,16 +162,16 @@ no_grace g e = let z : g ≡ 0 = eqb-true g 0 e in le-ltb 0 g (omega arith)
 some_grace : (g : ℕ) → eqb g 0 ≡ false → ltb 0 g ≡ true
 some_grace g e = let z : g ≡ 0 → ⊥ = eqb-false g 0 e in lt-ltb 0 g (omega arith)
 
-heard_by : (ds peers : List ℕ) (s : Scan) → is_heard (by_given (value_of ds) s (duration_of peers)) ≡ has_length ds (ltb 0 s.grace) peers
+heard_by : (ds peers : List ℕ) (s : Scan) → is_heard (by_given (value_of ds) s (spelled_value peers)) ≡ has_length ds (ltb 0 s.grace) peers
 unfolding without_digits
 heard_by [] peers s = go (eqb s.grace 0) (ltb 0 s.grace) (no_grace s.grace) (some_grace s.grace) refl
   where
     go : (t g : Bool) → (eqb s.grace 0 ≡ true → g ≡ false) → (eqb s.grace 0 ≡ false → g ≡ true) → eqb s.grace 0 ≡ t
-        → is_heard (cond t (from_peers (duration_of peers) s) (noted (Some (Plain 5)) s)) ≡ (g || has_value peers)
-    go true g p q e = rw (p e) (heard_value NoLength true (duration_of peers) s ∙ has_value_lem peers)
+        → is_heard (cond t (from_peers (spelled_value peers) s) (noted (Some (Plain 5)) s)) ≡ (g || has_value peers)
+    go true g p q e = rw (p e) (heard_value NoLength true (spelled_value peers) s ∙ has_value_lem peers)
     go false g p q e = rw (q e)
 heard_by (x ∷ xs) peers s =
-    ap is_heard (given_noted (duration_of (x ∷ xs)) (duration_of peers) s) ∙ heard_value BadReciprocal false (duration_of (x ∷ xs)) s ∙ has_value_lem (x ∷ xs)
+    ap is_heard (given_noted (spelled_value (x ∷ xs)) (spelled_value peers) s) ∙ heard_value BadReciprocal false (spelled_value (x ∷ xs)) s ∙ has_value_lem (x ∷ xs)
 
 heard_after : (a b c d k : Bool) (m : Outcome) → is_heard m ≡ k
     → is_heard (cond a (Ok None) (cond b (Err BadLength) (cond c m (cond d (Err NoPitch) m)))) ≡ (not a && (not b && ((c || not d) && k)))
@@ -136,10 +184,10 @@ heard_after false false false false k m e = e
 pub note_agrees : (token peers : List ℕ) → is_heard (read_token token peers) ≡ is_note token peers
 unfolding outcome_of scan_items is_note
 note_agrees token peers =
-    heard_after (is_silent (items token)) (bad_length false false (items token)) (rest_of (items token)) (eqb (length (pitches_of (items token))) 0)
-    (has_length (first_digits (runs token)) (is_grace token) peers) (measured (scan_of token) (duration_of peers))
-    (ap (λ (g : Given). is_heard (by_given g (scan_of token) (duration_of peers))) (first_digits_lem (runs token))
-    ∙ heard_by (first_digits (runs token)) peers (scan_of token))
+    heard_after (is_silent (items token)) (is_bad (items token)) (rest_of (items token)) (eqb (length (pitches_of (items token))) 0)
+    (has_length (first_digits (pieces_of token)) (is_grace token) peers) (measured (scan_of token) (spelled_value peers))
+    (ap (λ (g : Given). is_heard (by_given g (scan_of token) (spelled_value peers))) (first_digits_lem (pieces_of token))
+    ∙ heard_by (first_digits (pieces_of token)) peers (scan_of token))
 
 -- ---- how long it lasts
 abbrev pub lasts : Note → Fraction
@@ -164,42 +212,42 @@ unfolding outcome_of
 after P s v h = after_by P s.silent s.bad s.rest (eqb s.pitches 0) (measured s v) h
 
 module _ (ds : List ℕ) (v d a n : ℕ) (few : d ≤ 3) where
-  plain_lasts : (grace : Bool) → duration_of ds ≡ Some (Plain v)
-      → SameLength (note_length v d 0 0 grace) (cond grace (0 over 1) (dotted d (reciprocal_length ds)))
+  plain_lasts : (grace : Bool) → spelled_value ds ≡ Some (Plain v)
+      → SameLength (note_length v d 0 0 grace) (cond grace (0 over 1) (dotted d (spelled_length ds)))
   plain_lasts true e = rw (grace_length v d 0 0)
-  plain_lasts false e = plain_agrees ds v d e few
+  plain_lasts false e = plain_spelled ds v d e few
 
-  tuplet_lasts : (grace : Bool) → duration_of ds ≡ Some (Tuplet v a n)
-      → SameLength (note_length v d a n grace) (cond grace (0 over 1) (dotted d (reciprocal_length ds)))
+  tuplet_lasts : (grace : Bool) → spelled_value ds ≡ Some (Tuplet v a n)
+      → SameLength (note_length v d a n grace) (cond grace (0 over 1) (dotted d (spelled_length ds)))
   tuplet_lasts true e = rw (grace_length v d a n)
-  tuplet_lasts false e = tuplet_agrees ds v a n d e few
+  tuplet_lasts false e = tuplet_spelled ds v a n d e few
 
 -- the account's length of a token whose digits are ds
 abbrev said_by : Scan → List ℕ → Fraction
-said_by s ds = cond (ltb 0 s.grace) (0 over 1) (dotted s.dots (reciprocal_length ds))
+said_by s ds = cond (ltb 0 s.grace) (0 over 1) (dotted s.dots (spelled_length ds))
 
 abbrev LastsAs : Fraction → Note → Type 0
 LastsAs f n = SameLength (lasts n) f
 
 module _ (s : Scan) (few : s.dots ≤ 3) where
-  value_lasts : (why : Unread) (i : Bool) (ds : List ℕ) (v : Option Value) → duration_of ds ≡ v → OfNote (LastsAs (said_by s ds)) (by_value why i v s)
+  value_lasts : (why : Unread) (i : Bool) (ds : List ℕ) (v : Option Value) → spelled_value ds ≡ v → OfNote (LastsAs (said_by s ds)) (by_value why i v s)
   unfolding note_of
   value_lasts why i ds None e = tt
   value_lasts why i ds (Some (Plain v)) e = plain_lasts ds v s.dots 0 0 few (ltb 0 s.grace) e
   value_lasts why i ds (Some (Tuplet v a n)) e = tuplet_lasts ds v s.dots a n few (ltb 0 s.grace) e
 
   grace_lasts : (ds : List ℕ) (t : Bool) → ltb 0 s.grace ≡ t → t ≡ true
-      → SameLength (note_length 5 s.dots 0 0 t) (cond t (0 over 1) (dotted s.dots (reciprocal_length ds)))
+      → SameLength (note_length 5 s.dots 0 0 t) (cond t (0 over 1) (dotted s.dots (spelled_length ds)))
   grace_lasts ds t e q = rw q (rw (grace_length 5 s.dots 0 0))
 
-  by_lasts : (ds peers : List ℕ) → OfNote (LastsAs (said_by s (or_peers ds peers))) (by_given (value_of ds) s (duration_of peers))
+  by_lasts : (ds peers : List ℕ) → OfNote (LastsAs (said_by s (or_peers ds peers))) (by_given (value_of ds) s (spelled_value peers))
   unfolding without_digits note_of
   by_lasts [] peers = go (eqb s.grace 0) refl
     where
-      go : (t : Bool) → eqb s.grace 0 ≡ t → OfNote (LastsAs (said_by s peers)) (cond t (from_peers (duration_of peers) s) (noted (Some (Plain 5)) s))
-      go true e = value_lasts NoLength true peers (duration_of peers) refl
+      go : (t : Bool) → eqb s.grace 0 ≡ t → OfNote (LastsAs (said_by s peers)) (cond t (from_peers (spelled_value peers) s) (noted (Some (Plain 5)) s))
+      go true e = value_lasts NoLength true peers (spelled_value peers) refl
       go false e = grace_lasts peers (ltb 0 s.grace) refl (some_grace s.grace e)
-  by_lasts (x ∷ xs) peers = subst (OfNote (LastsAs (said_by s (x ∷ xs)))) (sym (given_noted (duration_of (x ∷ xs)) (duration_of peers) s)) (value_lasts BadReciprocal false (x ∷ xs) (duration_of (x ∷ xs)) refl)
+  by_lasts (x ∷ xs) peers = subst (OfNote (LastsAs (said_by s (x ∷ xs)))) (sym (given_noted (spelled_value (x ∷ xs)) (spelled_value peers) s)) (value_lasts BadReciprocal false (x ∷ xs) (spelled_value (x ∷ xs)) refl)
 
 few_dots : (is : List Item) → dots_of is ≤ 3
 unfolding dots_of
@@ -208,9 +256,9 @@ few_dots is = omega arith
 note_lasts : (token peers : List ℕ) → OfNote (LastsAs (account_length token peers)) (read_token token peers)
 unfolding scan_items account_length
 note_lasts token peers =
-    after (LastsAs (account_length token peers)) (scan_of token) (duration_of peers)
-    (subst (λ (g : Given). OfNote (LastsAs (account_length token peers)) (by_given g (scan_of token) (duration_of peers))) (sym (first_digits_lem (runs token)))
-    (by_lasts (scan_of token) (few_dots (items token)) (first_digits (runs token)) peers))
+    after (LastsAs (account_length token peers)) (scan_of token) (spelled_value peers)
+    (subst (λ (g : Given). OfNote (LastsAs (account_length token peers)) (by_given g (scan_of token) (spelled_value peers))) (sym (first_digits_lem (pieces_of token)))
+    (by_lasts (scan_of token) (few_dots (items token)) (first_digits (pieces_of token)) peers))
 
 -- its value, dots and tuplet give exactly the account's length
 pub length_agrees : (token peers : List ℕ) (n : Note) → read_token token peers ≡ Ok (Some n) → SameLength (lasts n) (account_length token peers)
@@ -254,4 +302,4 @@ pub heard_lists : (token : List ℕ) (v : Option Value) {n : Note} {o : Outcome}
 heard_lists token v e q = subst (OfNote (Listed token)) (sym e ∙ q) (outcome_of_lem (Listed token) (scan_of token) (each_listed token) v)
 
 pub lists_agree : (token peers : List ℕ) (n : Note) → read_token token peers ≡ Ok (Some n) → Listed token n
-lists_agree token peers n e = heard_lists token (duration_of peers) refl e
+lists_agree token peers n e = heard_lists token (spelled_value peers) refl e

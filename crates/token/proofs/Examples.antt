@@ -1,6 +1,6 @@
--- Worked tokens, one table, and one fact over it.
+-- Worked tokens: a table, one of ratios, and the tokens with a bad length; one fact over each.
 use Prim.Native.Nat.{ℕ, ◌+◌}
-use mathlib.Core.Bool.{Bool, true, cond, ◌&&◌}
+use mathlib.Core.Bool.{Bool, true, cond, not, ◌&&◌}
 use mathlib.Core.List.{List, [], ◌∷◌}
 use lib.Dec.{T, eqb, ltb}
 use Rattle.slices.specs.Ascii.{ascii}
@@ -9,8 +9,9 @@ use Rattle.slices.specs.Compare.{same_bytes}
 use Rattle.duration.specs.Duration.{digits, number_from, exponent_of, gcd_in, written, written_at, counts, duration_of}
 use Rattle.pitch.specs.Pitch.{within, lower_case, upper_case, lower_pitch, upper_pitch, pitch_of, altered_by}
 use Rattle.notation.specs.Bytes.{contains}
-use Rattle.items.specs.Items.{is_letter, joins, into, runs, item_of, items_of}
-use Rattle.token.specs.Token.{bad_length, up_to_blank, first_sub, is_silent, given_in, marks, count_of, dots_of, rest_of, any_of, grace_by, grace_from, articulation, articulations_in, heard, passes, signifiers}
+use Rattle.duration.specs.Ratio.{smallest_of, reduced_at, ratio_at, ratio_of, ratio_value, is_ratio, before_percent, behind_percent, spelled_value}
+use Rattle.items.specs.Items.{is_letter, joins, into, runs, pieces, item_of, items_of, items}
+use Rattle.token.specs.Token.{bad_length, is_bad, up_to_blank, first_sub, is_silent, given_in, marks, count_of, dots_of, rest_of, any_of, grace_by, grace_from, articulation, articulations_in, heard, passes, signifiers}
 use Rattle.token.specs.Scan.{scan_items}
 use Rattle.token.specs.Outcome.{Outcome, notice_number, note_of, without_digits, outcome_of, read_token, reported, note_pitches}
 use Rattle.token.specs.declared.pitches.Tone.{Tone}
@@ -100,5 +101,67 @@ table =
     ∷ []
 
 pub examples : T (each table)
-unfolding table holds same_bytes index_of digits number_from exponent_of gcd_in written written_at counts duration_of within lower_case upper_case lower_pitch upper_pitch pitch_of altered_by contains is_letter joins into runs item_of items_of bad_length up_to_blank first_sub is_silent given_in marks count_of dots_of rest_of any_of grace_by grace_from articulation articulations_in heard passes signifiers scan_items note_of without_digits outcome_of
+unfolding table holds same_bytes index_of digits number_from exponent_of gcd_in written written_at counts duration_of is_ratio spelled_value within lower_case upper_case lower_pitch upper_pitch pitch_of altered_by contains is_letter joins into runs pieces item_of items_of bad_length up_to_blank first_sub is_silent given_in marks count_of dots_of rest_of any_of grace_by grace_from articulation articulations_in heard passes signifiers scan_items note_of without_digits outcome_of
 examples = tt
+
+-- ---- ratios
+unfoldable pub ratios : List Line
+ratios =
+    line (ascii "3%2c") [] (0 ∷ 2 ∷ 3 ∷ 2 ∷ 0 ∷ 0 ∷ []) [] (0 ∷ 4 ∷ 128 ∷ [])
+    ∷ line (ascii "3%2.c") [] (0 ∷ 2 ∷ 3 ∷ 2 ∷ 1 ∷ 0 ∷ []) [] (0 ∷ 4 ∷ 128 ∷ [])
+    ∷ line (ascii "[3%2c") [] (0 ∷ 2 ∷ 3 ∷ 2 ∷ 0 ∷ 2 ∷ []) [] (0 ∷ 4 ∷ 128 ∷ [])
+    ∷ line (ascii "c3%2") [] (0 ∷ 2 ∷ 3 ∷ 2 ∷ 0 ∷ 0 ∷ []) [] (0 ∷ 4 ∷ 128 ∷ [])
+    ∷ line (ascii "4%2c") [] (0 ∷ 3 ∷ 0 ∷ 0 ∷ 0 ∷ 0 ∷ []) [] (0 ∷ 4 ∷ 128 ∷ [])
+    ∷ line (ascii "3%2r") [] (0 ∷ 2 ∷ 3 ∷ 2 ∷ 0 ∷ 1 ∷ []) [] []
+    -- a grace by its own length; none where it writes none
+    ∷ line (ascii "3%2cq") [] (0 ∷ 2 ∷ 3 ∷ 2 ∷ 0 ∷ 96 ∷ []) [] (0 ∷ 4 ∷ 128 ∷ [])
+    ∷ line (ascii "300%2cq") [] (19 ∷ []) [] (0 ∷ 4 ∷ 128 ∷ [])
+    ∷ line (ascii "1%5c") [] (19 ∷ []) [] (0 ∷ 4 ∷ 128 ∷ [])
+    ∷ line (ascii "64%255c") [] (19 ∷ []) [] (0 ∷ 4 ∷ 128 ∷ [])
+    -- 16 by the spelling, before all else; 18 before the value
+    ∷ line (ascii "300%2c%") [] (16 ∷ []) [] (0 ∷ 4 ∷ 128 ∷ [])
+    ∷ line (ascii "300%2x") [] (18 ∷ []) (ascii "x") []
+    -- a `%` in front is no part of it, and alone stands in the signifiers; nor is one behind a blank
+    ∷ line (ascii "%3%2c") [] (0 ∷ 2 ∷ 3 ∷ 2 ∷ 0 ∷ 0 ∷ []) (ascii "%") (0 ∷ 4 ∷ 128 ∷ [])
+    ∷ line (ascii "3 %2c") [] (0 ∷ 3 ∷ 3 ∷ 2 ∷ 0 ∷ 0 ∷ []) (ascii "%") (0 ∷ 4 ∷ 128 ∷ [])
+    -- only the first sub-token has one
+    ∷ line (ascii " 3%2c 4e%") [] (0 ∷ 2 ∷ 3 ∷ 2 ∷ 0 ∷ 0 ∷ []) (ascii "%") (0 ∷ 4 ∷ 128 ∷ 2 ∷ 4 ∷ 128 ∷ [])
+    ∷ line (ascii "4c 3%2e") [] (16 ∷ []) [] (0 ∷ 4 ∷ 128 ∷ 2 ∷ 4 ∷ 128 ∷ [])
+    -- the neighbours'
+    ∷ line (ascii "c") (ascii "3%2") (20 ∷ 2 ∷ 3 ∷ 2 ∷ 0 ∷ 0 ∷ []) [] (0 ∷ 4 ∷ 128 ∷ [])
+    ∷ []
+
+pub ratio_examples : T (each ratios)
+unfolding ratios holds same_bytes index_of digits number_from exponent_of gcd_in written written_at counts duration_of smallest_of reduced_at ratio_at ratio_of ratio_value is_ratio before_percent behind_percent spelled_value within lower_case upper_case lower_pitch upper_pitch pitch_of altered_by contains is_letter joins into runs pieces item_of items_of bad_length up_to_blank first_sub is_silent given_in marks count_of dots_of rest_of any_of grace_by grace_from articulation articulations_in heard passes signifiers scan_items note_of without_digits outcome_of
+ratio_examples = tt
+
+-- ---- bad lengths
+abbrev pub every : (List ℕ → Bool) → List (List ℕ) → Bool
+every test [] = true
+every test (t ∷ ts) = test t && every test ts
+
+bad : List (List ℕ)
+bad =
+    -- further digits or a `%` behind a ratio
+    ascii "3%2%" ∷ ascii "3%2c4" ∷ ascii "3%2c%" ∷ ascii "3%2%4%5c"
+    -- digits and a `%` behind them, with no digit there
+    ∷ ascii "4%c" ∷ ascii "4%" ∷ ascii "3%%2c" ∷ ascii "3%2 4%e"
+    -- a ratio that isn't the first length, or in a later sub-token
+    ∷ ascii "4c3%2" ∷ ascii "4c 4%3e" ∷ ascii "3%2c 3%2e" ∷ ascii "c 3%2e"
+    -- repeated digits
+    ∷ ascii "3.%2c" ∷ ascii "4c4" ∷ ascii "4 4e4"
+    ∷ []
+
+good : List (List ℕ)
+good =
+    ascii "3%2c" ∷ ascii "c3%2" ∷ ascii "3%2.c" ∷ ascii "%3c" ∷ ascii "%3%2c" ∷ ascii "4c%" ∷ ascii "3%2c 4e" ∷ ascii "  3%2c" ∷ ascii "3 %2" ∷ ascii "3%2c e%"
+    ∷ ascii "(3%2c 5e 6g)" ∷ ascii "4c" ∷ ascii "300%2c"
+    ∷ []
+
+bad_ones : T (every (λ t. is_bad (items t)) bad)
+unfolding bad is_letter within joins into runs pieces items_of item_of is_ratio bad_length
+bad_ones = tt
+
+good_ones : T (every (λ t. not (is_bad (items t))) good)
+unfolding good is_letter within joins into runs pieces items_of item_of is_ratio bad_length
+good_ones = tt

@@ -13,7 +13,8 @@ use Rattle.pitch.specs.Pitch.{within, lower_case, upper_case, lower_pitch, upper
 use Rattle.pitch.specs.Reference.{Step, C, D, E, F, G, B, Case, lower, upper, letter_of, further, octave_of, number, Accidental, sharp, flat, natural}
 use Rattle.pitch.specs.Reference as reference
 use Rattle.notation.specs.Bytes.{contains}
-use Rattle.items.specs.Items.{is_letter, joins, into, runs, item_of, items_of}
+use Rattle.duration.specs.Ratio.{is_ratio, spelled_value}
+use Rattle.items.specs.Items.{is_letter, joins, into, runs, pieces, item_of, items_of}
 use Rattle.token.specs.Token.{up_to_blank, first_sub, marks, rest_of, heard}
 use Rattle.token.specs.Outcome.{note_pitches}
 use Rattle.token.specs.Reference.{of_pitch, SubToken, bytes_of, token_of, octave_number, alteration, reference_tones}
@@ -81,5 +82,5 @@ table =
     ∷ []
 
 pub examples : T (each table)
-unfolding table holds token_of bytes_of letter_of reference_tones octave_number alteration number octave_of further same_bytes index_of digits number_from exponent_of gcd_in written written_at counts duration_of within lower_case upper_case lower_pitch upper_pitch pitch_of altered_by contains is_letter joins into runs item_of items_of up_to_blank first_sub marks rest_of heard
+unfolding table holds token_of bytes_of letter_of reference_tones octave_number alteration number octave_of further same_bytes index_of digits number_from exponent_of gcd_in written written_at counts duration_of is_ratio spelled_value within lower_case upper_case lower_pitch upper_pitch pitch_of altered_by contains is_letter joins into runs pieces item_of items_of up_to_blank first_sub marks rest_of heard
 examples = tt

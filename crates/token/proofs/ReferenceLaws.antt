@@ -3,7 +3,7 @@ use mathlib.Core.Path.{◌≡◌, refl, sym, ap, ap₂, ◌∙◌}
 use Prim.Native.Nat.{ℕ, zero, suc, ◌+◌, ◌-◌, ◌≤◌, min}
 use native.Mathlib.Omega.{arith}
 use mathlib.Core.List.{List, [], ◌∷◌, ◌++◌, append_assoc, append-nil}
-use mathlib.Core.Bool.{Bool, true, false, cond, ◌||◌}
+use mathlib.Core.Bool.{Bool, true, false, cond, ◌&&◌, ◌||◌}
 use lib.Dec.{eqb, leb}
 use lib.ListN.{length, replicate, length-replicate}
 use borrow.Author.Tests.{eq-eqb, ne_eqb, eqb-true, eqb-false, leb-true, leb-false}
@@ -16,11 +16,11 @@ use Rattle.pitch.specs.Pitch.{within, pitch_of, altered_by, signs}
 use Rattle.pitch.specs.Reference.{Step, C, D, E, F, G, A, B, Case, lower, upper, letter_of, Octave, above, below, octave_of, Numbered, Accidental, sharp, flat, natural, written}
 use Rattle.pitch.proofs.Letters.{seven}
 use Rattle.pitch.proofs.Agreement.{inside, outside, sharps, sharps_end, flats, flats_end, natural_sets}
-use Rattle.items.specs.Items.{is_digit, is_letter, joins, into, runs, item_of, items_of, items}
+use Rattle.items.specs.Items.{is_digit, is_letter, joins, into, runs, is_number, is_percent, pieces, length_item, item_of, items_of, items}
 use Rattle.items.specs.declared.Item.{Item}
-use Rattle.items.specs.declared.Item.TheVariants.{Digits, Letters, Blank, Mark}
+use Rattle.items.specs.declared.Item.TheVariants.{Digits, Ratio, Letters, Blank, Mark}
 use Rattle.items.proofs.NextLaws.{letter_no_digit}
-use Rattle.duration.specs.Duration.{duration_of}
+use Rattle.duration.specs.Ratio.{is_ratio, spelled_value}
 use Rattle.token.specs.Token.{up_to_blank, first_sub, marks, rest_of, begun, signed, given, heard}
 use Rattle.token.specs.Outcome.{note_pitches}
 use Rattle.token.specs.Reference.{of_pitch, SubToken, bytes_of, token_of, octave_number, alteration, tone_at, reference_tones}
@@ -68,6 +68,79 @@ altered (flat k) = go (leb k 128) refl
     go false p = let l = leb-false _ _ p in flats_end k (omega arith) ∙ omega arith
 altered natural = natural_sets 128 []
 
+-- ---- digits and the `%` between them say nothing of a pitch: the runs of a token give what its pieces give
+abbrev run_items : List ℕ → List Item
+run_items token = items_of (runs token)
+
+heard_length : (s : Option Tone) (r : List ℕ) (is : List Item) → heard s (length_item r ∷ is) ≡ heard s is
+unfolding heard
+heard_length s r is = go (is_ratio r)
+  where
+    go : (t : Bool) → heard s (cond t (Ratio (spelled_value r)) (Digits (spelled_value r)) ∷ is) ≡ heard s is
+    go true = refl
+    go false = refl
+
+heard_number : (s : Option Tone) (r : List ℕ) (is : List Item) → is_number r ≡ true → heard s (item_of r ∷ is) ≡ heard s is
+unfolding item_of heard within
+heard_number s [] is d = cc
+heard_number s (x ∷ r) is d = rw d (heard_length s (x ∷ r) is)
+
+signed_percent : (s : Option Tone) → signed s 37 ≡ s
+unfolding altered_by
+signed_percent None = refl
+signed_percent (Some t) = refl
+
+percent_byte : (p : List ℕ) → is_percent p ≡ true → p ≡ 37 ∷ []
+percent_byte [] e = cc
+percent_byte (x ∷ []) e = ap (λ (y : ℕ). y ∷ []) (eqb-true x 37 e)
+percent_byte (x ∷ y ∷ p) e = let l = eqb-true _ _ (and_parts (eqb (length (x ∷ y ∷ p)) 1) (eqb x 37) e).0 in absurd (omega arith)
+
+heard_percent : (s : Option Tone) (p : List ℕ) (is : List Item) → is_percent p ≡ true → heard s (item_of p ∷ is) ≡ heard s is
+unfolding item_of heard is_letter within
+heard_percent s p is e = rw (percent_byte p e) (ap (λ (u : Option Tone). heard u is) (signed_percent s))
+
+-- behind an item, lists that are heard alike are heard alike
+heard_on : (i : Item) (is js : List Item) → ((s : Option Tone) → heard s is ≡ heard s js) → (s : Option Tone) → heard s (i ∷ is) ≡ heard s (i ∷ js)
+unfolding heard
+heard_on (Digits v) is js e s = e s
+heard_on (Ratio v) is js e s = e s
+heard_on (Letters c n) is js e s = e (begun s (pitch_of c n))
+heard_on Blank is js e s = ap (λ (ts : List Tone). given s ++ ts) (e None)
+heard_on (Mark b) is js e s = e (signed s b)
+
+number_append : (r t : List ℕ) → is_number r ≡ true → is_number (r ++ t) ≡ true
+unfolding within
+number_append [] t d = cc
+number_append (x ∷ r) t d = d
+
+-- a ratio's three runs
+record Three (r p q : List ℕ) : Type 0 where
+  pub first : is_number r ≡ true
+  pub percent : is_percent p ≡ true
+  pub second : is_number q ≡ true
+
+three : (r p q : List ℕ) → (is_number r && is_percent p && is_number q) ≡ true → Three r p q
+three r p q e =
+    let b = and_parts (is_number r && is_percent p) (is_number q) e in
+    let a = and_parts (is_number r) (is_percent p) b.0 in
+    record { first = a.0; percent = a.1; second = b.1 }
+
+heard_pieces : (rs : List (List ℕ)) (s : Option Tone) → heard s (items_of (pieces rs)) ≡ heard s (items_of rs)
+unfolding items_of pieces
+heard_pieces [] s = refl
+heard_pieces (r ∷ []) s = refl
+heard_pieces (r ∷ p ∷ []) s = refl
+heard_pieces (r ∷ p ∷ q ∷ rs) s = go (is_number r && is_percent p && is_number q) refl (heard_pieces rs s) (heard_pieces (p ∷ q ∷ rs))
+  where
+    go : (t : Bool) → (is_number r && is_percent p && is_number q) ≡ t → heard s (items_of (pieces rs)) ≡ heard s (items_of rs)
+        → ((u : Option Tone) → heard u (items_of (pieces (p ∷ q ∷ rs))) ≡ heard u (items_of (p ∷ q ∷ rs)))
+        → heard s (items_of (cond t ((r ++ (p ++ q)) ∷ pieces rs) (r ∷ pieces (p ∷ q ∷ rs)))) ≡ heard s (items_of (r ∷ p ∷ q ∷ rs))
+    go true e h k =
+        let t = three r p q e in
+        heard_number s (r ++ (p ++ q)) (items_of (pieces rs)) (number_append r (p ++ q) t.first) ∙ h
+        ∙ sym (heard_number s r (items_of (p ∷ q ∷ rs)) t.first ∙ heard_percent s p (items_of (q ∷ rs)) t.percent ∙ heard_number s q (items_of rs) t.second)
+    go false e h k = heard_on (item_of r) _ _ k s
+
 -- ---- the runs of a token, byte by byte
 -- the first run begins with the first byte
 record Front (y : ℕ) (rs : List (List ℕ)) : Type 0 where
@@ -112,28 +185,28 @@ module _ (c : ℕ) (l : is_letter c ≡ true) where
   letter_item n = rw (letter_no_digit c l, l, length-replicate n c)
 
   heard_letters : (s : Option Tone) (n : ℕ) (rest : List ℕ) → Stops c rest
-      → heard s (items (replicate (suc n) c ++ rest)) ≡ heard (begun s (pitch_of c (suc n))) (items rest)
+      → heard s (run_items (replicate (suc n) c ++ rest)) ≡ heard (begun s (pitch_of c (suc n))) (run_items rest)
   unfolding heard items_of
   heard_letters s n rest h = ap (λ (rs : List (List ℕ)). heard s (items_of rs)) (letter_run n rest h) ∙ rw (letter_item n)
 
 module _ (s : Option Tone) (b : ℕ) where
   -- digits are not heard, alone or in a run
-  heard_digit : (xs : List ℕ) → is_digit b ≡ true → heard s (items (b ∷ xs)) ≡ heard s (items xs)
-  unfolding heard items_of item_of runs into joins
-  heard_digit [] d = rw d
+  heard_digit : (xs : List ℕ) → is_digit b ≡ true → heard s (run_items (b ∷ xs)) ≡ heard s (run_items xs)
+  unfolding items_of runs into joins
+  heard_digit [] d = heard_number s (b ∷ []) [] d
   heard_digit (y ∷ ys) d = let f = front y (runs ys) in rw f.is (go f.run f.others (is_digit y) refl)
     where
       go : (r : List ℕ) (rs : List (List ℕ)) (t : Bool) → is_digit y ≡ t
           → heard s (items_of (into b ((y ∷ r) ∷ rs))) ≡ heard s (items_of ((y ∷ r) ∷ rs))
-      go r rs true e = rw (d, e, d)
-      go r rs false e = rw (d, e, d, e)
+      go r rs true e = rw (d, e) (heard_number s (b ∷ y ∷ r) (items_of rs) d ∙ sym (heard_number s (y ∷ r) (items_of rs) e))
+      go r rs false e = rw (d, e) (heard_number s (b ∷ []) (items_of ((y ∷ r) ∷ rs)) d)
 
   heard_mark : (xs : List ℕ) → is_digit b ≡ false → is_letter b ≡ false → eqb b 32 ≡ false
-      → heard s (items (b ∷ xs)) ≡ heard (signed s b) (items xs)
+      → heard s (run_items (b ∷ xs)) ≡ heard (signed s b) (run_items xs)
   unfolding heard items_of item_of
   heard_mark xs d l n = ap (λ (rs : List (List ℕ)). heard s (items_of rs)) (alone b xs d l) ∙ rw (d, l, n)
 
-heard_blank : (s : Option Tone) (xs : List ℕ) → heard s (items (32 ∷ xs)) ≡ given s ++ heard None (items xs)
+heard_blank : (s : Option Tone) (xs : List ℕ) → heard s (run_items (32 ∷ xs)) ≡ given s ++ heard None (run_items xs)
 unfolding heard items_of item_of is_letter within
 heard_blank s xs = ap (λ (rs : List (List ℕ)). heard s (items_of rs)) (alone 32 xs refl refl)
 
@@ -210,18 +283,18 @@ signed_aside : (s : Option Tone) (b : ℕ) → of_pitch b ≡ false → signed s
 signed_aside None b n = refl
 signed_aside (Some t) b n = rw (aside_altered t.alter b n)
 
-heard_aside : (s : Option Tone) (b : ℕ) (xs : List ℕ) → of_pitch b ≡ false → heard s (items (b ∷ xs)) ≡ heard s (items xs)
+heard_aside : (s : Option Tone) (b : ℕ) (xs : List ℕ) → of_pitch b ≡ false → heard s (run_items (b ∷ xs)) ≡ heard s (run_items xs)
 unfolding of_pitch contains
 heard_aside s b xs n = go (is_digit b) refl
   where
-    go : (t : Bool) → is_digit b ≡ t → heard s (items (b ∷ xs)) ≡ heard s (items xs)
+    go : (t : Bool) → is_digit b ≡ t → heard s (run_items (b ∷ xs)) ≡ heard s (run_items xs)
     go true d = heard_digit s b xs d
     go false d =
         heard_mark s b xs d (no_letter b n) (differs of_pitch b 32 n refl)
-        ∙ ap (λ (u : Option Tone). heard u (items xs)) (signed_aside s b n)
+        ∙ ap (λ (u : Option Tone). heard u (run_items xs)) (signed_aside s b n)
 
 heard_sign : (s : Option Tone) (b : ℕ) (xs : List ℕ) → is_sign b ≡ true
-    → heard s (items (b ∷ xs)) ≡ heard (signed s b) (items xs)
+    → heard s (run_items (b ∷ xs)) ≡ heard (signed s b) (run_items xs)
 unfolding is_letter within
 heard_sign s b xs h =
     heard_mark s b xs (sign_fails is_digit refl refl refl b h) (sign_fails is_letter refl refl refl b h)
@@ -232,7 +305,7 @@ all_signed s [] = s
 all_signed s (b ∷ bs) = all_signed (signed s b) bs
 
 heard_around : (s : Option Tone) {bs ss : List ℕ} → Around bs ss → (rest : List ℕ)
-    → heard s (items (bs ++ rest)) ≡ heard (all_signed s ss) (items rest)
+    → heard s (run_items (bs ++ rest)) ≡ heard (all_signed s ss) (run_items rest)
 unfolding all_signed
 heard_around s none rest = refl
 heard_around s (aside {b} {bs} n a) rest = heard_aside s b (bs ++ rest) n ∙ heard_around s a rest
@@ -299,23 +372,23 @@ module _ (s : SubToken) where
           rw (inside s.case s.step s.repetitions n at.0 at.1) (rw (toned, altered) refl)
 
   heard_note : (rest : List ℕ) → ((c : ℕ) → is_letter c ≡ true → Stops c rest)
-      → heard None (items (bytes_of s ++ rest)) ≡ heard (heard_of s) (items rest)
+      → heard None (run_items (bytes_of s ++ rest)) ≡ heard (heard_of s) (run_items rest)
   unfolding bytes_of heard_of all_signed
   heard_note rest stops =
       let c = letter_of s.case s.step in
       let l = letter_is s.case s.step in
       let run = replicate (suc s.repetitions) c in
       let moved : (s.before ++ (run ++ s.behind)) ++ rest ≡ s.before ++ (run ++ (s.behind ++ rest)) = simp append_assoc in
-      ap (λ (xs : List ℕ). heard None (items xs)) moved ∙ heard_around None before_around (run ++ (s.behind ++ rest))
+      ap (λ (xs : List ℕ). heard None (run_items xs)) moved ∙ heard_around None before_around (run ++ (s.behind ++ rest))
       ∙ heard_letters c l None s.repetitions (s.behind ++ rest) (stops_around c l behind_around (stops c l))
       ∙ heard_around (begun None (pitch_of c (suc s.repetitions))) behind_around rest
 
 -- ---- the notes of a token
-heard_notes : (subs : List SubToken) → heard None (items (token_of subs)) ≡ reference_tones subs
+heard_notes : (subs : List SubToken) → heard None (run_items (token_of subs)) ≡ reference_tones subs
 unfolding heard items_of runs token_of reference_tones is_letter within
 heard_notes [] = refl
 heard_notes (s ∷ []) =
-    ap (λ (xs : List ℕ). heard None (items xs)) (sym (append-nil (bytes_of s))) ∙ heard_note s [] (λ c l. end) ∙ heard_is s
+    ap (λ (xs : List ℕ). heard None (run_items xs)) (sym (append-nil (bytes_of s))) ∙ heard_note s [] (λ c l. end) ∙ heard_is s
     ∙ sym (append-nil (tone_at s (octave_number (octave_of s.case s.repetitions))))
 heard_notes (s ∷ t ∷ ss) =
     heard_note s (32 ∷ token_of (t ∷ ss)) (λ c l. other (differs is_letter 32 c refl l))
@@ -331,20 +404,41 @@ module _ (is : List Item) where
   sounds_behind : (i : Item) → Sounds (i ∷ is) → Sounds is
   unfolding marks contains
   sounds_behind (Digits v) h = h
+  sounds_behind (Ratio v) h = h
   sounds_behind (Letters c n) h = h
   sounds_behind Blank h = h
   sounds_behind (Mark b) h = (or_parts (eqb b 114) (contains 114 (marks is)) h).1
+
+  sounds_length : (r : List ℕ) → Sounds is → Sounds (length_item r ∷ is)
+  unfolding marks contains
+  sounds_length r h = go (is_ratio r)
+    where
+      go : (t : Bool) → Sounds (cond t (Ratio (spelled_value r)) (Digits (spelled_value r)) ∷ is)
+      go true = h
+      go false = h
 
   sounds_item : (x : ℕ) (r : List ℕ) → eqb x 114 ≡ false → Sounds is → Sounds (item_of (x ∷ r) ∷ is)
   unfolding marks contains item_of
   sounds_item x r e h = go (is_digit x) (is_letter x) (eqb x 32)
     where
-      go : (d l b : Bool)
-          → Sounds (cond d (Digits (duration_of (x ∷ r))) (cond l (Letters x (suc (length r))) (cond b Blank (Mark x))) ∷ is)
-      go true l b = h
+      go : (d l b : Bool) → Sounds (cond d (length_item (x ∷ r)) (cond l (Letters x (suc (length r))) (cond b Blank (Mark x))) ∷ is)
+      go true l b = sounds_length (x ∷ r) h
       go false true b = h
       go false false true = h
       go false false false = rw (e, h)
+
+  sounds_number : (r : List ℕ) → is_number r ≡ true → Sounds is → Sounds (item_of r ∷ is)
+  unfolding item_of within
+  sounds_number [] d h = cc
+  sounds_number (x ∷ r) d h = rw d (sounds_length (x ∷ r) h)
+
+  sounds_on : (i : Item) (js : List Item) → Sounds (i ∷ js) → Sounds is → Sounds (i ∷ is)
+  unfolding marks contains
+  sounds_on (Digits v) js k h = h
+  sounds_on (Ratio v) js k h = h
+  sounds_on (Letters c n) js k h = h
+  sounds_on Blank js k h = h
+  sounds_on (Mark b) js k h = rw ((or_parts (eqb b 114) (contains 114 (marks js)) k).0, h)
 
 sounds_into : (x : ℕ) (rs : List (List ℕ)) → eqb x 114 ≡ false → Sounds (items_of rs) → Sounds (items_of (into x rs))
 unfolding items_of into
@@ -356,15 +450,34 @@ sounds_into x ((y ∷ r) ∷ rs) e h = go (joins x y)
     go true = sounds_item (items_of rs) x (y ∷ r) e (sounds_behind (items_of rs) (item_of (y ∷ r)) h)
     go false = sounds_item (items_of ((y ∷ r) ∷ rs)) x [] e h
 
-sounds : (xs : List ℕ) → contains 114 xs ≡ false → Sounds (items xs)
+sounds : (xs : List ℕ) → contains 114 xs ≡ false → Sounds (run_items xs)
 unfolding items_of runs contains marks
 sounds [] h = refl
 sounds (x ∷ xs) h = let both = or_parts (eqb x 114) (contains 114 xs) h in sounds_into x (runs xs) both.0 (sounds xs both.1)
+
+sounds_pieces : (rs : List (List ℕ)) → Sounds (items_of rs) → Sounds (items_of (pieces rs))
+unfolding items_of pieces
+sounds_pieces [] h = h
+sounds_pieces (r ∷ []) h = h
+sounds_pieces (r ∷ p ∷ []) h = h
+sounds_pieces (r ∷ p ∷ q ∷ rs) h = go (is_number r && is_percent p && is_number q) refl (sounds_pieces rs) (sounds_pieces (p ∷ q ∷ rs))
+  where
+    behind : Sounds (items_of (p ∷ q ∷ rs))
+    behind = sounds_behind (items_of (p ∷ q ∷ rs)) (item_of r) h
+
+    go : (t : Bool) → (is_number r && is_percent p && is_number q) ≡ t → (Sounds (items_of rs) → Sounds (items_of (pieces rs)))
+        → (Sounds (items_of (p ∷ q ∷ rs)) → Sounds (items_of (pieces (p ∷ q ∷ rs))))
+        → Sounds (items_of (cond t ((r ++ (p ++ q)) ∷ pieces rs) (r ∷ pieces (p ∷ q ∷ rs))))
+    go true e k l =
+        sounds_number (items_of (pieces rs)) (r ++ (p ++ q)) (number_append r (p ++ q) (three r p q e).first)
+        (k (sounds_behind (items_of rs) (item_of q) (sounds_behind (items_of (q ∷ rs)) (item_of p) behind)))
+    go false e k l = sounds_on (items_of (pieces (p ∷ q ∷ rs))) (item_of r) _ h (l behind)
 
 sounds_up : (is : List Item) → Sounds is → Sounds (up_to_blank is)
 unfolding up_to_blank marks contains
 sounds_up [] h = h
 sounds_up (Digits v ∷ is) h = sounds_up is h
+sounds_up (Ratio v ∷ is) h = sounds_up is h
 sounds_up (Letters c n ∷ is) h = sounds_up is h
 sounds_up (Blank ∷ is) h = refl
 sounds_up (Mark b ∷ is) h = let both = or_parts (eqb b 114) (contains 114 (marks is)) h in rw (both.0, sounds_up is both.1)
@@ -373,6 +486,7 @@ no_rest : (is : List Item) → Sounds is → rest_of is ≡ false
 unfolding rest_of first_sub up_to_blank marks contains
 no_rest [] h = h
 no_rest (Digits v ∷ is) h = sounds_up is h
+no_rest (Ratio v ∷ is) h = sounds_up is h
 no_rest (Letters c n ∷ is) h = sounds_up is h
 no_rest (Blank ∷ is) h = no_rest is h
 no_rest (Mark b ∷ is) h = let both = or_parts (eqb b 114) (contains 114 (marks is)) h in rw (both.0, sounds_up is both.1)
@@ -412,4 +526,6 @@ no_r (s ∷ t ∷ ss) = contains_append 114 (bytes_of s) (32 ∷ token_of (t ∷
 
 -- the pitches of a token's note are the reference's, one for each sub-token whose octave is one of 0 to 9, in order
 pub token_agrees : (subs : List SubToken) → note_pitches (token_of subs) ≡ reference_tones subs
-token_agrees subs = rw (no_rest (items (token_of subs)) (sounds (token_of subs) (no_r subs))) (heard_notes subs)
+token_agrees subs =
+    rw (no_rest (items (token_of subs)) (sounds_pieces (runs (token_of subs)) (sounds (token_of subs) (no_r subs))))
+    (heard_pieces (runs (token_of subs)) None ∙ heard_notes subs)

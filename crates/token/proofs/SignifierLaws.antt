@@ -2,12 +2,12 @@
 use mathlib.Core.Path.{◌≡◌, refl, sym, ◌∙◌}
 use Prim.Native.Nat.{ℕ}
 use mathlib.Core.List.{List, [], ◌∷◌}
-use mathlib.Core.Bool.{Bool, true, false}
+use mathlib.Core.Bool.{Bool, true, false, cond}
 use Rattle.pitch.specs.Pitch.{pitch_of}
-use Rattle.duration.specs.declared.Value.{Value}
-use Rattle.std.specs.Prelude.{Option}
+use Rattle.duration.specs.Ratio.{is_ratio, spelled_value}
+use Rattle.items.specs.Items.{length_item}
 use Rattle.items.specs.declared.Item.{Item}
-use Rattle.items.specs.declared.Item.TheVariants.{Digits, Letters, Blank, Mark}
+use Rattle.items.specs.declared.Item.TheVariants.{Digits, Ratio, Letters, Blank, Mark}
 use Rattle.token.specs.Token.{fits, passes, signifiers}
 
 pub no_signifiers : (s : Bool) → signifiers s [] ≡ []
@@ -15,9 +15,14 @@ unfolding signifiers
 no_signifiers s = refl
 
 module _ (s : Bool) where
-  pub past_digits : (v : Option Value) (is : List Item) → signifiers s (Digits v ∷ is) ≡ signifiers s is
+  -- digits, or a ratio
+  pub past_length : (r : List ℕ) (is : List Item) → signifiers s (length_item r ∷ is) ≡ signifiers s is
   unfolding signifiers
-  past_digits v is = refl
+  past_length r is = go (is_ratio r)
+    where
+      go : (t : Bool) → signifiers s (cond t (Ratio (spelled_value r)) (Digits (spelled_value r)) ∷ is) ≡ signifiers s is
+      go true = refl
+      go false = refl
 
   pub past_pitch : (c n : ℕ) {t : Bool} → t ≡ fits s (pitch_of c n) → t ≡ true → (is : List Item) → signifiers s (Letters c n ∷ is) ≡ signifiers true is
   unfolding signifiers

@@ -1,10 +1,10 @@
 -- What becomes of a token: nothing, a notice, or a note.
 use Rattle.std.specs.Prelude.{ℕ, List, [], Bool, true, false, cond, eqb, Option, Some, None, Result, Ok, Err}
-use Rattle.duration.specs.Duration.{duration_of}
+use Rattle.duration.specs.Ratio.{spelled_value}
 use Rattle.duration.specs.declared.Value.{Value}
 use Rattle.duration.specs.declared.Value.TheVariants.{Plain, Tuplet}
 use Rattle.items.specs.Items.{items}
-use Rattle.token.specs.Token.{rest_of, pitches_of, signifiers_of, bad_length}
+use Rattle.token.specs.Token.{rest_of, pitches_of, signifiers_of, is_bad}
 use Rattle.token.specs.Scan.{scan_of}
 use Rattle.token.specs.declared.scan.Scan.{Scan}
 use Rattle.token.specs.declared.scan.Given.{Given}
@@ -81,13 +81,13 @@ outcome_of s inferred =
     (cond s.rest (measured s inferred)
     (cond (eqb s.pitches 0) (Err NoPitch) (measured s inferred))))
 
--- a token, with the digits that its peers give, or none
+-- a token, with the length that its peers give as they spell it, or none
 abbrev pub read_token : List ℕ → List ℕ → Outcome
-read_token token inferred = outcome_of (scan_of token) (duration_of inferred)
+read_token token inferred = outcome_of (scan_of token) (spelled_value inferred)
 
 -- "Only for 17 .. its bytes follow": the signifiers, of which a token with a bad length reports none
 abbrev pub reported : List ℕ → List ℕ
-reported token = cond (bad_length false false (items token)) [] (signifiers_of (items token))
+reported token = cond (is_bad (items token)) [] (signifiers_of (items token))
 
 -- the pitches of a token's note
 abbrev pub note_pitches : List ℕ → List Tone

@@ -1,16 +1,16 @@
 -- What a token says, aspect by aspect.
-use Rattle.std.specs.Prelude.{List, false, ℕ, length}
+use Rattle.std.specs.Prelude.{List, ℕ, length}
 use Rattle.slices.specs.Ascii.{ascii}
 use Rattle.items.specs.Items.{items}
 use Rattle.items.specs.declared.Item.{Item}
 use Rattle.token.specs.declared.scan.Scan.{Scan}
-use Rattle.token.specs.Token.{bad_length, first_sub, is_silent, given_in, dots_of, rest_of, marks, any_of, grace_from, articulations_of, pitches_of, signifiers_of}
+use Rattle.token.specs.Token.{is_bad, first_sub, is_silent, given_in, dots_of, rest_of, marks, any_of, grace_from, articulations_of, pitches_of, signifiers_of}
 
 -- the aspects of a token: "tie start, tie end, slur start, slur end" are `ties`, `tied`, `slurs`, `slurred`
 unfoldable pub scan_items : List Item → Scan
 scan_items is =
     record {
-      bad = bad_length false false is;
+      bad = is_bad is;
       silent = is_silent is;
       given = given_in (first_sub is);
       dots = dots_of is;

@@ -7,23 +7,51 @@ use Rattle.pitch.specs.declared.Pitch.{Pitch}
 use Rattle.duration.specs.declared.Value.{Value}
 use Rattle.items.specs.Items.{is_digit, is_letter}
 use Rattle.items.specs.declared.Item.{Item}
-use Rattle.items.specs.declared.Item.TheVariants.{Digits, Letters, Blank, Mark}
+use Rattle.items.specs.declared.Item.TheVariants.{Digits, Ratio, Letters, Blank, Mark}
+use Rattle.token.specs.declared.scan.Before.{Before}
+use Rattle.token.specs.declared.scan.Before.TheVariants.{Nothing as Nothing_before, Right, Further, Ratio as Ratio_before}
 use Rattle.token.specs.declared.scan.Given.{Given}
 use Rattle.token.specs.declared.scan.Given.TheVariants.{Nothing, NoValue, Length}
 use Rattle.token.specs.declared.pitches.Tone.{Tone}
 
 -- ---- lengths
--- "16 `%` or repeated length": `had` says that digits stand before in this sub-token, `behind` that they stand right before
-unfoldable pub bad_length : Bool → Bool → List Item → Bool
-bad_length had behind [] = false
-bad_length had behind (Digits v ∷ is) = had || bad_length true true is
-bad_length had behind (Letters c n ∷ is) = bad_length had false is
-bad_length had behind (Blank ∷ is) = bad_length false false is
-bad_length had behind (Mark b ∷ is) = eqb b 37 && behind || bad_length had false is
+abbrev pub is_nothing : Before → Bool
+is_nothing Nothing_before = true
+is_nothing Right = false
+is_nothing Further = false
+is_nothing Ratio_before = false
+
+-- once another piece stands between
+abbrev pub passed : Before → Before
+passed Nothing_before = Nothing_before
+passed Right = Further
+passed Further = Further
+passed Ratio_before = Ratio_before
+
+-- a `%` right behind digits is bad, and any `%` behind a ratio: "further digits or `%` there give notice 16"
+abbrev pub percent_bad : Before → Bool
+percent_bad Nothing_before = false
+percent_bad Right = true
+percent_bad Further = false
+percent_bad Ratio_before = true
+
+-- "16 `%` or repeated length"; "An n%m counts where a first sub-token's first digits begin it": `begun` says that the sub-token has an item, and `later`
+-- that it isn't the first that has one
+unfoldable pub bad_length : Bool → Bool → Before → List Item → Bool
+bad_length later begun before [] = false
+bad_length later begun before (Digits v ∷ is) = not (is_nothing before) || bad_length later true Right is
+bad_length later begun before (Ratio v ∷ is) = not (is_nothing before) || later || bad_length later true Ratio_before is
+bad_length later begun before (Letters c n ∷ is) = bad_length later true (passed before) is
+bad_length later begun before (Blank ∷ is) = bad_length (later || begun) false Nothing_before is
+bad_length later begun before (Mark b ∷ is) = eqb b 37 && percent_bad before || bad_length later true (passed before) is
+
+abbrev pub is_bad : List Item → Bool
+is_bad is = bad_length false false Nothing_before is
 
 -- ---- the first sub-token, whose length, dots and rest are the token's: "chord length from its first sub-token"
 abbrev pub is_blank : Item → Bool
 is_blank (Digits v) = false
+is_blank (Ratio v) = false
 is_blank (Letters c n) = false
 is_blank Blank = true
 is_blank (Mark b) = false
@@ -42,23 +70,25 @@ unfoldable pub is_silent : List Item → Bool
 is_silent [] = true
 is_silent (i ∷ is) = is_blank i && is_silent is
 
--- what digits give: their value, or that they write none
+-- what a length gives: its value, or that it writes none
 abbrev pub given_by : Option Value → Given
 given_by None = NoValue
 given_by (Some v) = Length v
 
--- what the digits give, if there are any
+-- what the first length gives, if there is one
 unfoldable pub given_in : List Item → Given
 given_in [] = Nothing
 given_in (Digits v ∷ is) = given_by v
+given_in (Ratio v ∷ is) = given_by v
 given_in (Letters c n ∷ is) = given_in is
 given_in (Blank ∷ is) = given_in is
 given_in (Mark b ∷ is) = given_in is
 
--- ---- single bytes: those that are no digits, no letters a to g and A to G, and no blanks
+-- ---- single bytes: those that are no digits, no letters a to g and A to G, and no blanks, nor the `%` of a ratio
 unfoldable pub marks : List Item → List ℕ
 marks [] = []
 marks (Digits v ∷ is) = marks is
+marks (Ratio v ∷ is) = marks is
 marks (Letters c n ∷ is) = marks is
 marks (Blank ∷ is) = marks is
 marks (Mark b ∷ is) = b ∷ marks is
@@ -130,6 +160,7 @@ given (Some t) = t ∷ []
 unfoldable pub heard : Option Tone → List Item → List Tone
 heard s [] = given s
 heard s (Digits v ∷ is) = heard s is
+heard s (Ratio v ∷ is) = heard s is
 heard s (Letters c n ∷ is) = heard (begun s (pitch_of c n)) is
 heard s (Blank ∷ is) = given s ++ heard None is
 heard s (Mark b ∷ is) = heard (signed s b) is
@@ -158,6 +189,7 @@ is_unknown b = not (is_digit b || is_letter b || contains b (ascii " %") || cont
 unfoldable pub signifiers : Bool → List Item → List ℕ
 signifiers sounding [] = []
 signifiers sounding (Digits v ∷ is) = signifiers sounding is
+signifiers sounding (Ratio v ∷ is) = signifiers sounding is
 signifiers sounding (Letters c n ∷ is) =
     cond (fits sounding (pitch_of c n)) (signifiers true is) (c ∷ signifiers sounding is)
 signifiers sounding (Blank ∷ is) = signifiers false is

@@ -9,6 +9,15 @@ pub enum Given {
     Length(Value),
 }
 
+// What stands before in a sub-token: no length, digits right before, digits further to the left, or a ratio.
+#[derive(Clone, Copy, PartialEq, Eq, Debug)]
+pub enum Before {
+    Nothing,
+    Right,
+    Further,
+    Ratio,
+}
+
 // What a token says, without its lists, of which the lengths are given.
 #[derive(Clone, Copy, PartialEq, Eq, Debug)]
 pub struct Scan {
