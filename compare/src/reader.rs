@@ -55,12 +55,13 @@ pub struct Bench {
     buffer: Vec<u8>,
     pub numbers: [usize; 18],
     pub calls: usize,
+    pub ratios: usize,
     pub unheld: usize,
 }
 
 impl Bench {
     pub fn new(longest: usize) -> Bench {
-        Bench { room: Room::new(longest), buffer: Vec::new(), numbers: [0; 18], calls: 0, unheld: 0 }
+        Bench { room: Room::new(longest), buffer: Vec::new(), numbers: [0; 18], calls: 0, ratios: 0, unheld: 0 }
     }
 
     /// One call on a buffer of this length, held to the encoder byte for byte.
@@ -103,7 +104,9 @@ impl Bench {
                 return Some(what);
             }
         }
-        if !comparable(text) || check::mixes(text) {
+        if check::has_ratios(text) {
+            self.ratios += 1;
+        } else if !comparable(text) || check::mixes(text) {
             self.unheld += 1;
         } else if !check::agree(text) {
             return Some("the encoder says otherwise than the source".to_string());
@@ -150,7 +153,7 @@ impl Run {
 
     fn said(&self, name: &str) {
         let answers: Vec<String> = self.bench.numbers.iter().enumerate().filter(|(_, n)| **n > 0).map(|(i, n)| format!("{i}: {n}")).collect();
-        println!("{name}: {} texts, {} calls (by number {}), {} not held to the source for their MM, signatures or a mixed run, {} different", self.texts, self.bench.calls, answers.join(", "), self.bench.unheld, self.different);
+        println!("{name}: {} texts, {} calls (by number {}), not held to the source {} for a `%` and {} for their MM, signatures or a mixed run, {} different", self.texts, self.bench.calls, answers.join(", "), self.bench.ratios, self.bench.unheld, self.different);
     }
 }
 
