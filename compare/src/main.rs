@@ -152,6 +152,26 @@ fn try_cases(folder: &str, seed: u64, many: usize) -> ExitCode {
     ExitCode::SUCCESS
 }
 
+/// Every request of a kind in files of such a size that `rt try` takes the answers, each beside the answers.
+fn try_requests(kind: &str, folder: &str) -> ExitCode {
+    let cases: Vec<Case> = cases_of(kind).into_iter().flat_map(|(_, cases)| cases).collect();
+    let mut rest = &cases[..];
+    for file in 0.. {
+        let mut size = 0;
+        let many = rest.iter().take_while(|c| { size += c.request.len().max(c.answer.len()) + 1; size <= 900_000 }).count();
+        let (here, behind) = rest.split_at(many);
+        let lines = |of: &dyn Fn(&Case) -> &[u8]| -> Vec<u8> { here.iter().flat_map(|c| [of(c), b"\n"].concat()).collect() };
+        std::fs::write(format!("{folder}/{file:03}"), lines(&|c| &c.request)).unwrap();
+        std::fs::write(format!("{folder}/{file:03}.stdout"), lines(&|c| &c.answer)).unwrap();
+        rest = behind;
+        if rest.is_empty() {
+            break;
+        }
+    }
+    println!("{} requests", cases.len());
+    ExitCode::SUCCESS
+}
+
 /// The commands over the proved library.
 #[cfg(library)]
 fn library(words: &[&str]) -> ExitCode {
@@ -175,7 +195,7 @@ fn library(_: &[&str]) -> ExitCode {
 }
 
 fn usage() -> ExitCode {
-    eprintln!("usage: compare sheet TEXT | compare cases FOLDER SEED TEXTS | compare encoder SEED TEXTS | compare run leaves|rows|tokens|longer-tokens PROGRAM | compare run texts PROGRAM SEED TEXTS | compare sample leaves|rows|tokens|texts REQUESTS ANSWERS | compare reader SEED TEXTS | compare reader short LINES | compare reader edges | compare causes SEED TEXTS | compare gaps SEED HOLES | compare bench [KIND]");
+    eprintln!("usage: compare sheet TEXT | compare cases FOLDER SEED TEXTS | compare cases leaves|rows|tokens|longer-tokens FOLDER | compare encoder SEED TEXTS | compare run leaves|rows|tokens|longer-tokens PROGRAM | compare run texts PROGRAM SEED TEXTS | compare sample leaves|rows|tokens|texts REQUESTS ANSWERS | compare reader SEED TEXTS | compare reader short LINES | compare reader edges | compare causes SEED TEXTS | compare gaps SEED HOLES | compare bench [KIND]");
     ExitCode::from(2)
 }
 
@@ -193,6 +213,7 @@ fn main() -> ExitCode {
         }
         ["encoder", seed, texts] => check::encoder(seed.parse().expect("a seed"), texts.parse().expect("a number of texts")),
         ["sheet", text] => sheet(text),
+        ["cases", kind @ ("leaves" | "rows" | "tokens" | "longer-tokens"), folder] => try_requests(kind, folder),
         ["cases", folder, seed, texts] => try_cases(folder, seed.parse().expect("a seed"), texts.parse().expect("a number of texts")),
         ["reader" | "causes" | "gaps" | "bench", ..] => library(&words.iter().map(String::as_str).collect::<Vec<_>>()),
         _ => usage(),
