@@ -100,13 +100,15 @@ fn sample(kind: &str, requests: &str, answers: &str) -> ExitCode {
     let (mut input, mut output) = (Vec::new(), Vec::new());
     let many = if kind == "leaves" { 90 } else { 600 };
     let mut met = 0;
-    for (_, cases) in cases_of(kind) {
+    let all = cases_of(kind);
+    let mut asked = std::collections::HashSet::new();
+    for (_, cases) in &all {
         // every case where there are few, else so many spread over all
         let step = cases.len().div_ceil(many);
         for (index, case) in cases.iter().enumerate() {
             let picked = PICKED.iter().any(|p| p.as_bytes() == case.request) || ratios::is_row(&case.request);
             met += usize::from(picked);
-            if (index % step == 0 || picked) && case.request.len() < 200 {
+            if (index % step == 0 || picked) && case.request.len() < 200 && asked.insert(&case.request) {
                 input.extend_from_slice(&case.request);
                 input.push(b'\n');
                 output.extend_from_slice(&case.answer);
