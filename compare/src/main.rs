@@ -131,17 +131,20 @@ fn sheet(text: &str) -> ExitCode {
     ExitCode::SUCCESS
 }
 
-/// Cases of the program `kern` for `rt try`, which runs code that isn't proved yet: each row of request E3's table in a text of its own, and texts by a seed, as
-/// many full of ratios as of all other kinds; each beside the encoder's sheet, or number, line and figure.
-fn try_cases(folder: &str, seed: u64, many: usize) -> ExitCode {
+/// Texts to try code on that isn't proved yet: each row of request E3's table in a text of its own, and texts by a seed, as many full of ratios as of all kinds.
+fn try_texts(seed: u64, many: usize) -> Vec<(String, Vec<u8>)> {
     let mut seed = generate::Seed(2 * seed + 1);
-    let mut texts = ratios::apart();
     let ratios = generate::KINDS.iter().position(|kind| *kind == "ratios").unwrap();
-    texts.extend((0..many).map(|i| {
+    let drawn = (0..many).map(|i| {
         let kind = if i % 2 == 0 { ratios } else { (i / 2) % generate::KINDS.len() };
         (format!("{i:06}-{}", generate::KINDS[kind]), generate::kind(&mut seed, kind))
-    }));
-    for (name, text) in texts {
+    });
+    ratios::apart().into_iter().chain(drawn).collect()
+}
+
+/// Cases of the program `kern` for `rt try`, which runs code that isn't proved yet: texts, each beside the encoder's sheet, or number, line and figure.
+fn try_cases(folder: &str, seed: u64, many: usize) -> ExitCode {
+    for (name, text) in try_texts(seed, many) {
         let answer = match encoder::sheet(&text) {
             _ if text.len() > 32_768 => b"long\n".to_vec(),
             Ok(sheet) if sheet.len() > 32_768 => format!("13 0 {}\n", sheet.len()).into_bytes(),
@@ -154,13 +157,35 @@ fn try_cases(folder: &str, seed: u64, many: usize) -> ExitCode {
     ExitCode::SUCCESS
 }
 
+/// The most bytes that a file of requests or of answers has, so that `rt try` takes them.
+const MOST: usize = 900_000;
+
+/// The same texts as lists of the program `texts`.
+fn try_lists(folder: &str, seed: u64, many: usize) -> ExitCode {
+    let mut lists: Vec<(Vec<u8>, Vec<u8>)> = vec![Default::default()];
+    for (_, text) in try_texts(seed, many) {
+        let (request, answer) = (texts::request(&text), texts::answer(&text));
+        if lists.last().is_some_and(|list| list.0.len() + request.len() > MOST || list.1.len() + answer.len() > MOST) {
+            lists.push(Default::default());
+        }
+        let list = lists.last_mut().unwrap();
+        list.0.extend(request);
+        list.1.extend(answer);
+    }
+    for (file, (list, answers)) in lists.iter().enumerate() {
+        std::fs::write(format!("{folder}/{file:03}"), list).unwrap();
+        std::fs::write(format!("{folder}/{file:03}.stdout"), answers).unwrap();
+    }
+    ExitCode::SUCCESS
+}
+
 /// Every request of a kind in files of such a size that `rt try` takes the answers, each beside the answers.
 fn try_requests(kind: &str, folder: &str) -> ExitCode {
     let cases: Vec<Case> = cases_of(kind).into_iter().flat_map(|(_, cases)| cases).collect();
     let mut rest = &cases[..];
     for file in 0.. {
         let mut size = 0;
-        let many = rest.iter().take_while(|c| { size += c.request.len().max(c.answer.len()) + 1; size <= 900_000 }).count();
+        let many = rest.iter().take_while(|c| { size += c.request.len().max(c.answer.len()) + 1; size <= MOST }).count();
         let (here, behind) = rest.split_at(many);
         let lines = |of: &dyn Fn(&Case) -> &[u8]| -> Vec<u8> { here.iter().flat_map(|c| [of(c), b"\n"].concat()).collect() };
         std::fs::write(format!("{folder}/{file:03}"), lines(&|c| &c.request)).unwrap();
@@ -197,7 +222,7 @@ fn library(_: &[&str]) -> ExitCode {
 }
 
 fn usage() -> ExitCode {
-    eprintln!("usage: compare sheet TEXT | compare cases FOLDER SEED TEXTS | compare cases leaves|rows|tokens|longer-tokens FOLDER | compare encoder SEED TEXTS | compare run leaves|rows|tokens|longer-tokens PROGRAM | compare run texts PROGRAM SEED TEXTS | compare sample leaves|rows|tokens|texts REQUESTS ANSWERS | compare reader SEED TEXTS | compare reader short LINES | compare reader edges | compare causes SEED TEXTS | compare gaps SEED HOLES | compare bench [KIND]");
+    eprintln!("usage: compare sheet TEXT | compare cases [texts] FOLDER SEED TEXTS | compare cases leaves|rows|tokens|longer-tokens FOLDER | compare encoder SEED TEXTS | compare run leaves|rows|tokens|longer-tokens PROGRAM | compare run texts PROGRAM SEED TEXTS | compare sample leaves|rows|tokens|texts REQUESTS ANSWERS | compare reader SEED TEXTS | compare reader short LINES | compare reader edges | compare causes SEED TEXTS | compare gaps SEED HOLES | compare bench [KIND]");
     ExitCode::from(2)
 }
 
@@ -216,6 +241,7 @@ fn main() -> ExitCode {
         ["encoder", seed, texts] => check::encoder(seed.parse().expect("a seed"), texts.parse().expect("a number of texts")),
         ["sheet", text] => sheet(text),
         ["cases", kind @ ("leaves" | "rows" | "tokens" | "longer-tokens"), folder] => try_requests(kind, folder),
+        ["cases", "texts", folder, seed, texts] => try_lists(folder, seed.parse().expect("a seed"), texts.parse().expect("a number of texts")),
         ["cases", folder, seed, texts] => try_cases(folder, seed.parse().expect("a seed"), texts.parse().expect("a number of texts")),
         ["reader" | "causes" | "gaps" | "bench", ..] => library(&words.iter().map(String::as_str).collect::<Vec<_>>()),
         _ => usage(),

@@ -98,12 +98,12 @@ pub fn long() -> Vec<(Vec<u8>, Vec<u8>, usize)> {
 }
 
 /// A text as the program takes it: behind its length and a LF.
-fn request(text: &[u8]) -> Vec<u8> {
+pub fn request(text: &[u8]) -> Vec<u8> {
     [format!("{}\n", text.len()).as_bytes(), text].concat()
 }
 
 /// The answer that the program is to give.
-fn answer(text: &[u8]) -> Vec<u8> {
+pub fn answer(text: &[u8]) -> Vec<u8> {
     match encoder::sheet(text) {
         Ok(sheet) if sheet.len() > ROOM => format!("13 0 {}\n", sheet.len()).into_bytes(),
         Ok(sheet) => [format!("{}\n", sheet.len()).as_bytes(), &sheet, b"\n"].concat(),
