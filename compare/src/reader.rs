@@ -106,23 +106,13 @@ impl Bench {
         }
         if check::has_ratios(text) {
             self.ratios += 1;
-        } else if !comparable(text) || check::mixes(text) {
+        } else if !check::comparable(text) || check::mixes(text) {
             self.unheld += 1;
         } else if !check::agree(text) {
             return Some("the encoder says otherwise than the source".to_string());
         }
         None
     }
-}
-
-/// Document 01 compares no `MM` texts but digits with at most one point and at most nine digits behind it, request E7 no signatures that the
-/// source takes and that are not standard.
-fn comparable(text: &[u8]) -> bool {
-    !check::apart(text) && text.windows(3).enumerate().filter(|(_, w)| *w == b"*MM").all(|(i, _)| {
-        let token = text[i + 3..].split(|b| matches!(b, b'\t' | b'\n' | b'\r')).next().unwrap();
-        let point = token.iter().position(|b| *b == b'.').unwrap_or(token.len());
-        token.len() <= point + 10 && token.iter().all(|b| b.is_ascii_digit() || *b == b'.')
-    })
 }
 
 struct Run {
