@@ -462,6 +462,25 @@ fn ratio(seed: &mut Seed) -> String {
     }
 }
 
+/// A record of notes of one length and a bare pitch among them, some with a neighbour that is spelled otherwise or offers nothing.
+fn beside_bare(seed: &mut Seed, width: usize, usual: &str) -> String {
+    let mut row: Vec<String> = (0..width).map(|_| format!("{usual}{}", seed.pick(&["c", "d", "r", "e-L", "gJ", "b;", "aq", "x"]))).collect();
+    if seed.below(2) == 0 {
+        let (length, other) = usual.split_once('%').unwrap_or((usual, "1"));
+        row[seed.below(width)] = match seed.below(8) {
+            0 => format!("{length}c"),
+            1 => format!("0{usual}c"),
+            2 => format!("{usual}0c"),
+            3 => format!("{length}%0{other}c"),
+            4 => format!("{usual}{}", seed.pick(&["c%", "c4", "c e", ".c", "", "%c", "c.", " c", "%2c"])),
+            5 => format!(" {usual}c"),
+            _ => format!("{}c", ratio(seed)),
+        };
+    }
+    row[seed.below(width)] = seed.pick(&["g", "ee-", "F#", "bn", "GG", "c#n-", "d", "gL", "cd"]).to_string();
+    row.join("\t")
+}
+
 /// Notes whose lengths are ratios or nearly so, with dots, graces, rests, chords and marks, and bare pitches beside them.
 fn ratios(seed: &mut Seed) -> Vec<u8> {
     let width = 1 + seed.below(5);
@@ -469,6 +488,10 @@ fn ratios(seed: &mut Seed) -> Vec<u8> {
     let mut lines = vec![header.join("\t")];
     for _ in 0..1 + seed.below(8) {
         let usual = ratio(seed);
+        if width > 2 && seed.below(3) == 0 {
+            lines.push(beside_bare(seed, width, &usual));
+            continue;
+        }
         let agreed = seed.below(2) == 0;
         let row: Vec<String> = (0..width)
             .map(|_| {
