@@ -132,6 +132,8 @@ fn kinds() -> Vec<Kind> {
         Kind { dense: true, ..by_size("drawn chords, all music", |n| drawn(n, |seed, length| format!("{length}{} {length}{}", seed.pick(&generate::PITCHES), seed.pick(&generate::PITCHES)))) },
         by_records("chorale, all music", four, &chorale, &[]),
         by_records("piano with sub-spines, all music", two, &piano, &[]),
+        // the source has notices 16 for them
+        by_records("ratios, all music", "**kern\t**kern\t**kern\t**kern\n", &[("3%2GG\t3%2d\t3%2g\t3%2b-\n3%4AA\t3%4d\t3%4f#\t3%4a\n1BB-\t1e-\t1g\t1cc\n=\t=\t=\t=\n", 12)], &[]),
         by_records("256 columns, all music", &wide, &[(&(row("8cL", 256) + &row("8dJ", 256) + &row("=", 256)), 512)], &[]),
         by_records("bare pitches, all music", "**kern\t**kern\t**kern\t**kern\n", &[("4GG\t4d\tg\t4b-\n8AA\t8d\t8f#\ta\nBB-\t2e-\t2g\t2cc\n=\t=\t=\t=\n", 12)], &[]),
         by_records("chorale, then nulls and bars", four, &chorale, &nulls),

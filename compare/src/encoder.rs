@@ -1,4 +1,4 @@
-//! A text's sheet, written from document 01 and request E7 and from nothing else here: what the source's report does not hold (lines, columns, spans, the order of
+//! A text's sheet, written from document 01 and requests E3, E5 and E7 and from nothing else here: what the source's report does not hold (lines, columns, spans, the order of
 //! records) comes from this. `check.rs` holds what it does hold to the report.
 
 /// Number, line and figure.
@@ -108,6 +108,50 @@ fn duration(digits: &[u8]) -> Option<(u8, u8, u8)> {
     }
     let common = (1..=base).rev().find(|d| n % d == 0 && base % d == 0).unwrap();
     Some((value as u8 + 2, (n / common) as u8, (base / common) as u8))
+}
+
+fn common_divisor(a: u64, b: u64) -> u64 {
+    if b == 0 { a } else { common_divisor(b, a % b) }
+}
+
+/// Request E3: the value of n%m, which lasts m/n. "n and m each 1 to 4 digits worth 1 to 255. The written value becomes the smallest of the ten
+/// that is not below m/n, with normal to actual in lowest terms. A ratio above 4, or whose tuplet doesn't fit a u8", has none.
+fn ratio(n: &[u8], m: &[u8]) -> Option<(u8, u8, u8)> {
+    let worth = |digits: &[u8]| -> Option<u64> {
+        let number = std::str::from_utf8(digits).ok()?.parse().ok()?;
+        (digits.len() <= 4 && (1..=255).contains(&number)).then_some(number)
+    };
+    let (n, m) = (worth(n)?, worth(m)?);
+    // the ten in 128ths of a whole note, the smallest first: value 9 is one of them, the longa 512
+    let value = (0..=9u8).rev().find(|value| (512 >> value) * n >= 128 * m)?;
+    // m/n of a whole note is normal over actual of the value: m/n = (512 >> value)/128 * normal/actual
+    let (normal, actual) = (128 * m, (512 >> value) * n);
+    let common = common_divisor(normal, actual);
+    let (normal, actual) = (normal / common, actual / common);
+    // what a NOTE lasts of it, its value times normal over actual, is m/n
+    assert_eq!((512 >> value) * normal * n, 128 * actual * m);
+    match (normal, actual) {
+        (1, 1) => Some((value, 0, 0)),
+        _ => Some((value, u8::try_from(actual).ok()?, u8::try_from(normal).ok()?)),
+    }
+}
+
+/// How many bytes a length has at the start of a piece of a token: digits, and behind them `%` and digits where it is a ratio.
+fn length(piece: &[u8]) -> usize {
+    let digits = |from: usize| piece[from..].iter().take_while(|b| b.is_ascii_digit()).count();
+    let n = digits(0);
+    match piece.get(n) {
+        Some(b'%') if n > 0 && digits(n + 1) > 0 => n + 1 + digits(n + 1),
+        _ => n,
+    }
+}
+
+/// Written value and tuplet of a length as it is spelled, a reciprocal or a ratio.
+pub fn value(spelling: &[u8]) -> Option<(u8, u8, u8)> {
+    match spelling.iter().position(|b| *b == b'%') {
+        Some(at) => ratio(&spelling[..at], &spelling[at + 1..]),
+        None => duration(spelling),
+    }
 }
 
 enum Said {
@@ -227,12 +271,21 @@ fn token(text: &[u8], inferred: Option<&[u8]>) -> Token {
     let mut first: Option<(Option<&[u8]>, u8, bool)> = None;
     for sub in text.split(|b| *b == b' ').filter(|s| !s.is_empty()) {
         let (mut digits, mut dots, mut rest) = (None, 0u8, false);
+        // request E3: "An n%m counts where a first sub-token's first digits begin it; further digits or `%` there give notice 16"
+        let mut ratio = false;
         let mut pitch: Option<(u8, u8, i8)> = None;
         let mut i = 0;
         while i < sub.len() {
             let b = sub[i];
             let run = |same: &dyn Fn(u8) -> bool| sub[i..].iter().take_while(|x| same(**x)).count();
             match b {
+                b'0'..=b'9' if first.is_none() && digits.is_none() && sub[i..i + length(&sub[i..])].contains(&b'%') => {
+                    ratio = true;
+                    digits = Some(&sub[i..i + length(&sub[i..])]);
+                    i += length(&sub[i..]);
+                    continue;
+                }
+                b'%' if ratio => return Token::Unread(Vec::new(), 16),
                 b'0'..=b'9' => {
                     let n = run(&|x| x.is_ascii_digit());
                     if sub.get(i + n) == Some(&b'%') || digits.is_some() {
@@ -288,12 +341,12 @@ fn token(text: &[u8], inferred: Option<&[u8]>) -> Token {
         return Token::Unread(signifiers, 18);
     }
     let (value, was_inferred) = match (digits, grace, inferred) {
-        (Some(digits), _, _) => match duration(digits) {
+        (Some(digits), _, _) => match value(digits) {
             Some(value) => (value, false),
             None => return Token::Unread(signifiers, 19),
         },
         (None, 1 | 2, _) => ((5, 0, 0), false),
-        (None, _, Some(digits)) => (duration(digits).unwrap(), true),
+        (None, _, Some(digits)) => (value(digits).unwrap(), true),
         _ => return Token::Unread(signifiers, 21),
     };
     let bits = [rest, tie.0 && !rest, tie.1 && !rest, slur.0, slur.1, grace > 0, grace == 2];
@@ -310,19 +363,20 @@ fn bare(token: &[u8]) -> bool {
     token.iter().skip_while(|b| *b == first).all(|b| matches!(b, b'#' | b'-' | b'n'))
 }
 
-/// The reciprocal that at least two other kern columns offer, all in one spelling.
+/// The length that at least two other kern columns offer, all in one spelling. Request E3: "Among neighbours a ratio counts as a reciprocal does, by
+/// its spelling."
 fn peers<'a>(tokens: &[&'a [u8]], row: &[Spine], column: usize) -> Option<&'a [u8]> {
     let mut offers = Vec::new();
     for (i, (token, spine)) in tokens.iter().zip(row).enumerate() {
         if i == column || *spine == Spine::Outside {
             continue;
         }
-        let digits = token.iter().take_while(|b| b.is_ascii_digit()).count();
-        let plain = !token.iter().any(|b| matches!(b, b' ' | b'.' | b'%'));
-        if !plain || digits == 0 || digits == token.len() || duration(&token[..digits]).is_none() {
+        let (spelling, rest) = token.split_at(length(token));
+        let plain = !rest.iter().any(|b| matches!(b, b' ' | b'.' | b'%'));
+        if !plain || spelling.is_empty() || rest.is_empty() || value(spelling).is_none() {
             return None;
         }
-        offers.push(&token[..digits]);
+        offers.push(spelling);
     }
     (offers.len() >= 2 && offers.iter().all(|o| *o == offers[0])).then(|| offers[0])
 }

@@ -90,7 +90,7 @@ pub fn text(seed: &mut Seed) -> Vec<u8> {
 }
 
 /// The kinds of texts that the library is held to.
-pub const KINDS: [&str; 11] = ["mixed", "chorale", "piano", "paths", "tokens", "interpretations", "headers", "references", "peers", "engraved", "damaged"];
+pub const KINDS: [&str; 12] = ["mixed", "chorale", "piano", "paths", "tokens", "interpretations", "headers", "references", "peers", "engraved", "ratios", "damaged"];
 
 /// A text of the k-th kind.
 pub fn kind(seed: &mut Seed, k: usize) -> Vec<u8> {
@@ -105,8 +105,9 @@ pub fn kind(seed: &mut Seed, k: usize) -> Vec<u8> {
         7 => references(seed),
         8 => peers(seed),
         9 => engraved(seed),
+        10 => ratios(seed),
         _ => {
-            let k = seed.below(10);
+            let k = seed.below(11);
             let base = kind(seed, k);
             damaged(seed, base)
         }
@@ -313,8 +314,8 @@ fn engraved(seed: &mut Seed) -> Vec<u8> {
     lines.join("\n").into_bytes()
 }
 
-/// A token of the letters that a note token knows, and some that it doesn't.
-fn token(seed: &mut Seed) -> String {
+/// A token of the letters that a note token knows, and some that it doesn't; without `%` where the text is to be held to the source.
+fn token(seed: &mut Seed, ratios: bool) -> String {
     const LETTERS: [&str; 56] = [
         "0", "1", "2", "4", "8", "16", "3", "9", "12", "255", "256", "00", ".", ".", "%", "c", "d", "g", "a", "C", "G", "B", "cc", "CC", "r", "n", "#", "-", "[", "]", "_", "(", ")", "L", "J",
         "q", "Q", "'", "^", "~", ";", "T", "t", " ", " ", "  ", "x", "h", "H", "\u{e9}", "\u{1d11e}", "!", "*", "=", "\r", "k",
@@ -322,6 +323,7 @@ fn token(seed: &mut Seed) -> String {
     let mut token = String::new();
     for _ in 0..1 + seed.below(7) {
         let letter = seed.pick(&LETTERS);
+        let letter = if letter == "%" && !ratios { "X" } else { letter };
         let times = if seed.below(8) == 0 { 1 + seed.below(8) } else { 1 };
         token.push_str(&letter.repeat(times));
     }
@@ -330,9 +332,10 @@ fn token(seed: &mut Seed) -> String {
 
 fn tokens(seed: &mut Seed) -> Vec<u8> {
     let width = 1 + seed.below(4);
+    let ratios = seed.below(4) == 0;
     let mut lines = vec![["**kern"].repeat(width).join("\t")];
     for _ in 0..1 + seed.below(8) {
-        let mut row: Vec<String> = (0..width).map(|_| token(seed)).collect();
+        let mut row: Vec<String> = (0..width).map(|_| token(seed, ratios)).collect();
         if seed.below(3) > 0 {
             // a plain note before the mark that would make it another record
             row[0].insert_str(0, "4c ");
@@ -446,6 +449,81 @@ fn peers(seed: &mut Seed) -> Vec<u8> {
     lines.join("\n").into_bytes()
 }
 
+/// A length n%m, or nearly one.
+fn ratio(seed: &mut Seed) -> String {
+    const EDGES: [&str; 44] = [
+        "3%2", "3%2", "4%2", "1%4", "255%255", "2%3", "03%2", "0003%0002", "00003%2", "3%00002", "0%2", "00%2", "3%0", "256%3", "3%256", "1%5", "63%252", "63%253", "64%255", "128%129", "127%255", "255%1", "255%254",
+        "255%2", "5%1", "300%2", "4%", "%3", "%3%2", "3%%2", "3.%2", "3%2%", "3%2%5", "3 %2", "3%2 ", " 3%2", "3% 2", "3%2.", ".3%2", "c3%2", "4", "0", "00", "12",
+    ];
+    match seed.below(5) {
+        0 | 1 => seed.pick(&EDGES).to_string(),
+        2 => format!("{}%{}", 1 + seed.below(255), 1 + seed.below(255)),
+        _ => format!("{}%{}", 1 + seed.below(9), 1 + seed.below(9)),
+    }
+}
+
+/// A record of notes of one length and a bare pitch among them, some with a neighbour that is spelled otherwise or offers nothing.
+fn beside_bare(seed: &mut Seed, width: usize, usual: &str) -> String {
+    let mut row: Vec<String> = (0..width).map(|_| format!("{usual}{}", seed.pick(&["c", "d", "r", "e-L", "gJ", "b;", "aq", "x"]))).collect();
+    if seed.below(2) == 0 {
+        let (length, other) = usual.split_once('%').unwrap_or((usual, "1"));
+        row[seed.below(width)] = match seed.below(8) {
+            0 => format!("{length}c"),
+            1 => format!("0{usual}c"),
+            2 => format!("{usual}0c"),
+            3 => format!("{length}%0{other}c"),
+            4 => format!("{usual}{}", seed.pick(&["c%", "c4", "c e", ".c", "", "%c", "c.", " c", "%2c"])),
+            5 => format!(" {usual}c"),
+            _ => format!("{}c", ratio(seed)),
+        };
+    }
+    row[seed.below(width)] = seed.pick(&["g", "ee-", "F#", "bn", "GG", "c#n-", "d", "gL", "cd"]).to_string();
+    row.join("\t")
+}
+
+/// Notes whose lengths are ratios or nearly so, with dots, graces, rests, chords and marks, and bare pitches beside them.
+fn ratios(seed: &mut Seed) -> Vec<u8> {
+    let width = 1 + seed.below(5);
+    let header: Vec<&str> = (0..width).map(|k| if k == 0 { "**kern" } else { seed.pick(&["**kern", "**kern", "**kern", "**kern", "**text"]) }).collect();
+    let mut lines = vec![header.join("\t")];
+    for _ in 0..1 + seed.below(8) {
+        let usual = ratio(seed);
+        if width > 2 && seed.below(3) == 0 {
+            lines.push(beside_bare(seed, width, &usual));
+            continue;
+        }
+        let agreed = seed.below(2) == 0;
+        let row: Vec<String> = (0..width)
+            .map(|_| {
+                let own = seed.below(if agreed { 8 } else { 2 }) > 0;
+                match seed.below(12) {
+                    0 | 1 => seed.pick(&["g", "ee-", "F#", "bn", "GG", ".", "gq", "g "]).to_string(),
+                    2..5 if agreed => format!("{usual}{}", seed.pick(&["c", "d", "r", "e-L", "gJ", "b;", "aq"])),
+                    _ => {
+                        let spelling = if own { usual.clone() } else { ratio(seed) };
+                        let before = seed.pick(&["", "", "", "", "", "[", "(", "x", "_", "L", " ", "%", "4"]);
+                        let dots = seed.pick(&["", "", "", "", ".", "..", "....", "%"]);
+                        let pitch = seed.pick(&["c", "c", "d", "ee-", "F#", "r", "", "x", "ccccccc", "rc"]);
+                        let mut behind = seed.pick(&["", "", "", "", "", "q", "Q", "]", "L", "J", "'", ";x", "%", "4", " 4e", " 3%2e", " e%", " e4%3", " e", " r", "3%2", " %", " 8%e", "  c", "#", ".", "\u{e9}"]).to_string();
+                        if seed.below(9) == 0 {
+                            behind.push_str(&format!(" {}{}", ratio(seed), seed.pick(&["e", "r", "", "x"])));
+                        }
+                        format!("{before}{spelling}{dots}{pitch}{behind}")
+                    }
+                }
+            })
+            .collect();
+        lines.push(row.join("\t"));
+        if seed.below(6) == 0 {
+            lines.push([seed.pick(&BARS)].repeat(width).join("\t"));
+        }
+    }
+    if seed.below(3) > 0 {
+        lines.push(["1c"].repeat(width).join("\t"));
+    }
+    lines.join("\n").into_bytes()
+}
+
 /// A copy with bytes changed, put in or taken out, lines cut, doubled or exchanged.
 fn damaged(seed: &mut Seed, mut text: Vec<u8>) -> Vec<u8> {
     for _ in 0..1 + seed.below(4) {
@@ -455,11 +533,11 @@ fn damaged(seed: &mut Seed, mut text: Vec<u8>) -> Vec<u8> {
         let at = seed.below(text.len());
         match seed.below(10) {
             0 => text[at] = seed.below(256) as u8,
-            1 => text[at] = b"\t\n\r *=!.4cr^v"[seed.below(13)],
+            1 => text[at] = b"\t\n\r *=!.4cr^v%"[seed.below(14)],
             2 => {
                 text.remove(at);
             }
-            3 => text.insert(at, b"\t\n\r *=!.4cr^v#-"[seed.below(15)]),
+            3 => text.insert(at, b"\t\n\r *=!.4cr^v#-%"[seed.below(16)]),
             4 => {
                 let sign = seed.pick(&["\u{e9}", "\u{2003}", "\u{1d11e}", "\u{85}", "\u{7ff}", "\u{ffff}", "\u{10ffff}"]).bytes();
                 text.splice(at..at, sign);

@@ -316,6 +316,7 @@ pub fn all() -> Vec<(&'static str, Vec<Case>)> {
         ("UTF-8", all_utf8()),
         ("references", all_references()),
         ("durations", strings(&digits, 1, 5).iter().map(|s| duration(s)).collect()),
+        ("ratios by request E3", crate::ratios::lengths()),
         ("pitches", all_pitches()),
         ("alterations", all_alterations()),
         ("beams", all_beams()),

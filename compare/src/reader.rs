@@ -55,12 +55,13 @@ pub struct Bench {
     buffer: Vec<u8>,
     pub numbers: [usize; 18],
     pub calls: usize,
+    pub ratios: usize,
     pub unheld: usize,
 }
 
 impl Bench {
     pub fn new(longest: usize) -> Bench {
-        Bench { room: Room::new(longest), buffer: Vec::new(), numbers: [0; 18], calls: 0, unheld: 0 }
+        Bench { room: Room::new(longest), buffer: Vec::new(), numbers: [0; 18], calls: 0, ratios: 0, unheld: 0 }
     }
 
     /// One call on a buffer of this length, held to the encoder byte for byte.
@@ -103,23 +104,15 @@ impl Bench {
                 return Some(what);
             }
         }
-        if !comparable(text) || check::mixes(text) {
+        if check::has_ratios(text) {
+            self.ratios += 1;
+        } else if !check::comparable(text) || check::mixes(text) {
             self.unheld += 1;
         } else if !check::agree(text) {
             return Some("the encoder says otherwise than the source".to_string());
         }
         None
     }
-}
-
-/// Document 01 compares no `MM` texts but digits with at most one point and at most nine digits behind it, request E7 no signatures that the
-/// source takes and that are not standard.
-fn comparable(text: &[u8]) -> bool {
-    !check::apart(text) && text.windows(3).enumerate().filter(|(_, w)| *w == b"*MM").all(|(i, _)| {
-        let token = text[i + 3..].split(|b| matches!(b, b'\t' | b'\n' | b'\r')).next().unwrap();
-        let point = token.iter().position(|b| *b == b'.').unwrap_or(token.len());
-        token.len() <= point + 10 && token.iter().all(|b| b.is_ascii_digit() || *b == b'.')
-    })
 }
 
 struct Run {
@@ -150,7 +143,7 @@ impl Run {
 
     fn said(&self, name: &str) {
         let answers: Vec<String> = self.bench.numbers.iter().enumerate().filter(|(_, n)| **n > 0).map(|(i, n)| format!("{i}: {n}")).collect();
-        println!("{name}: {} texts, {} calls (by number {}), {} not held to the source for their MM, signatures or a mixed run, {} different", self.texts, self.bench.calls, answers.join(", "), self.bench.unheld, self.different);
+        println!("{name}: {} texts, {} calls (by number {}), not held to the source {} for a `%` and {} for their MM, signatures or a mixed run, {} different", self.texts, self.bench.calls, answers.join(", "), self.bench.ratios, self.bench.unheld, self.different);
     }
 }
 

@@ -1,9 +1,10 @@
 //! The replayed list of texts with their sheets or refusals. What the source's report holds of each text is the source's (the list is
-//! only written where the encoder's sheet says the same, request E7 sets a signature apart, or the text is refused with 17, which the
-//! source takes); lines, columns, spans and the order of records are the encoder's, which was written from document 01.
+//! only written where the encoder's sheet says the same, request E7 sets a signature apart, the text has a `%`, which request E3 takes out of the
+//! comparison, or it is refused with 17, which the source takes); lines, columns, spans and the order of records are the encoder's, which was written from document 01.
 use crate::check;
 use crate::encoder;
 use crate::generate::{self, Seed};
+use crate::ratios;
 use std::io::{Read, Write};
 use std::process::{Command, ExitCode, Stdio};
 
@@ -78,6 +79,8 @@ pub fn picked() -> Vec<Vec<u8>> {
     texts.push(wide(200, &format!("{}\t{}\n", joined("*", 143), joined("*^", 57))));
     texts.push(wide(200, &format!("{}\t{}\n{}\n", joined("*", 144), joined("*^", 56), joined("8d", 256))));
     texts.push(wide(256, &format!("{}\n{}\n", joined("4c", 256), joined("=", 256)).repeat(6)));
+    // ratios, and what neighbours make of them
+    texts.extend(ratios::texts());
     // not UTF-8
     for bad in [&b"\xff"[..], b"\xc0\x80", b"\xe0\x9f\xbf", b"\xed\xa0\x80", b"\xf4\x90\x80\x80", b"\xf0\x9f\x8e"] {
         texts.push([b"**kern\n4c ".as_slice(), bad].concat());
@@ -95,12 +98,12 @@ pub fn long() -> Vec<(Vec<u8>, Vec<u8>, usize)> {
 }
 
 /// A text as the program takes it: behind its length and a LF.
-fn request(text: &[u8]) -> Vec<u8> {
+pub fn request(text: &[u8]) -> Vec<u8> {
     [format!("{}\n", text.len()).as_bytes(), text].concat()
 }
 
 /// The answer that the program is to give.
-fn answer(text: &[u8]) -> Vec<u8> {
+pub fn answer(text: &[u8]) -> Vec<u8> {
     match encoder::sheet(text) {
         Ok(sheet) if sheet.len() > ROOM => format!("13 0 {}\n", sheet.len()).into_bytes(),
         Ok(sheet) => [format!("{}\n", sheet.len()).as_bytes(), &sheet, b"\n"].concat(),
@@ -122,7 +125,7 @@ fn run(program: &str, input: Vec<u8>) -> Vec<u8> {
 /// Texts by a seed through the program, beside the encoder and the source; the first that differs is cut down, line by line, and shown.
 pub fn beside(program: &str, seed: u64, texts: usize) -> ExitCode {
     let mut seed = Seed(2 * seed + 1);
-    let (mut done, mut accepted, mut mixed, mut different) = (0, 0, 0, 0);
+    let (mut done, mut accepted, mut mixed, mut ratios, mut different) = (0, 0, 0, 0, 0);
     while done < texts {
         let (mut input, mut expected, mut batch) = (Vec::new(), Vec::new(), Vec::new());
         while done + batch.len() < texts {
@@ -138,7 +141,8 @@ pub fn beside(program: &str, seed: u64, texts: usize) -> ExitCode {
         let agrees = run(program, input) == expected;
         for text in batch {
             accepted += usize::from(encoder::sheet(&text).is_ok());
-            mixed += usize::from(check::mixes(&text));
+            ratios += usize::from(check::has_ratios(&text));
+            mixed += usize::from(!check::has_ratios(&text) && check::mixes(&text));
             if !check::agree(&text) || (!agrees && run(program, request(&text)) != answer(&text)) {
                 different += 1;
                 if different == 1 {
@@ -148,7 +152,7 @@ pub fn beside(program: &str, seed: u64, texts: usize) -> ExitCode {
             }
         }
     }
-    println!("texts: {done} texts, {accepted} accepted, {mixed} refused with 17 and not held to the source, {different} different");
+    println!("texts: {done} texts, {accepted} accepted, {ratios} with `%` and {mixed} refused with 17, neither held to the source, {different} different");
     if different == 0 { ExitCode::SUCCESS } else { ExitCode::FAILURE }
 }
 

@@ -1,4 +1,6 @@
-//! Note tokens beside the published source: all short tokens over an alphabet that has every class of byte, alone and beside peers.
+//! Note tokens beside the published source: all short tokens over an alphabet that has every class of byte, alone and beside peers. A record with a `%`
+//! is held to the encoder alone (request E3).
+use crate::encoder;
 use crate::leaves::{Case, strings};
 use crate::source::*;
 
@@ -21,7 +23,51 @@ pub fn notice_number(reason: &str) -> Option<u8> {
 pub fn token(record: &str) -> Case {
     let columns = record.split('\t').count();
     let all = |token: &str| vec![token; columns].join("\t");
-    let report = parse_kern_with_report(&format!("{}\n{record}\n{}\n{}\n", all("**kern"), all("="), all("1r"))).unwrap();
+    let text = format!("{}\n{record}\n{}\n{}\n", all("**kern"), all("="), all("1r"));
+    let answer = if record.contains('%') { of_encoder(&text, columns) } else { of_source(&text, columns) };
+    Case { request: format!("T{record}").into_bytes(), answer: answer.into_bytes() }
+}
+
+/// What the encoder's sheet says of a column of line 2.
+fn of_encoder(text: &str, column: usize) -> String {
+    let sheet = encoder::sheet(text.as_bytes()).unwrap();
+    let number = |at: usize, width: usize| (0..width).fold(0, |n, i| n + ((sheet[at + i] as usize) << (8 * i)));
+    let mut answer = String::new();
+    let mut at = 16;
+    while at < sheet.len() {
+        let b = &sheet[at..];
+        at += match b[0] {
+            1 => {
+                let (pitches, articulations) = (number(at + 20, 4), number(at + 24, 4));
+                let (list, long) = (28 + 3 * pitches, 28 + 3 * pitches + articulations);
+                if (number(at + 8, 4), number(at + 12, 2)) == (2, column) {
+                    answer.push_str(&format!("note {} {} {} {} {} {} {pitches} ", b[3], b[16], b[17], b[14], b[15], b[18]));
+                    b[28..list].iter().for_each(|byte| answer.push_str(&format!("{byte} ")));
+                    answer.push_str(&format!("{articulations} "));
+                    b[list..long].iter().for_each(|byte| answer.push_str(&format!("{byte} ")));
+                }
+                long
+            }
+            2 | 3 => 20,
+            4 => 32,
+            _ => {
+                let more = if b[1] == 17 { number(at + 12, 4) } else { 0 };
+                if (number(at + 4, 4), number(at + 2, 2)) == (2, column) {
+                    answer.push_str(&format!("{} ", b[1]));
+                    if b[1] == 17 {
+                        answer.push_str(&format!("{} ", String::from_utf8_lossy(&b[24..24 + more])));
+                    }
+                }
+                24 + more
+            }
+        };
+    }
+    answer
+}
+
+/// What the source's report says of a column of line 2, the last one.
+fn of_source(text: &str, columns: usize) -> String {
+    let report = parse_kern_with_report(text).unwrap();
     let mut answer = String::new();
     let place = format!("/line/2/spine/{columns}");
     for d in report.diagnostics.iter().filter(|d| d.source_location.as_deref() == Some(&place)) {
@@ -47,7 +93,7 @@ pub fn token(record: &str) -> Case {
             answer.push_str(&format!("{} ", articulation_number(a)));
         }
     }
-    Case { request: format!("T{record}").into_bytes(), answer: answer.into_bytes() }
+    answer
 }
 
 /// All tokens of up to `high` bytes over the alphabet and one unknown byte, alone; of up to three bytes beside peers.
@@ -66,6 +112,7 @@ pub fn all(high: usize) -> Vec<Case> {
         "4c r", "4r c", "4rc", "8rq", "4c....", "4c_", "4r_", "4c(T)t^~;", "4c\u{e9}", "4c\u{a0}d", "00c", "000c", "99999x", "4c##n#", "4c 4e 4g", "16.cc#L", "4cQq", "4cqQ"] {
         cases.push(token(long));
     }
+    cases.extend(crate::ratios::tokens());
     cases
 }
 

@@ -76,6 +76,12 @@ fn show_has_the_words_of_musicians() {
 }
 
 #[test]
+fn show_has_ratios_as_tuplets() {
+    let said = shown(b"**kern\n3%2c\n2%3d\n4%2e\n3%2.r\n3%2cq\n=\n1c\n*-\n");
+    assert!(said.contains("voice 0: whole 3:2 C4; breve 4:3 D4; half E4; dotted whole 3:2 rest; slashed grace whole 3:2 C4\n"), "{said}");
+}
+
+#[test]
 fn show_has_notices_with_what_they_preserve() {
     let said = shown(b"!!!ONM: 3\n**kern\t**dynam\n4cX\tf\n*-\t*-\n");
     assert!(said.contains("line 1: humdrum.unsupported-reference, Humdrum reference record is not represented in the score model; preserved: ONM `3`\n"));

@@ -20,9 +20,9 @@ fn byte_of(digits: &[u8]) -> Option<u8> {
     u8::try_from(number_of(digits)?).ok()
 }
 
-// D: digits, to value, actual, normal.
-fn duration_of(rt: &impl Print, digits: &[u8]) -> io::Result<()> {
-    match duration::kern_duration(digits) {
+// D: a length as it is spelled, to value, actual, normal.
+fn duration_of(rt: &impl Print, spelling: &[u8]) -> io::Result<()> {
+    match duration::spelled_value(spelling) {
         None => print!(rt; "-"),
         Some(Value::Plain(value)) => print!(rt; "{value} 0 0"),
         Some(
