@@ -16,7 +16,6 @@ use Rattle.paths.specs.Record.{Rec, star}
 use Rattle.paths.specs.Row.{branch_from, part_of, spine_at, part_at}
 use Rattle.paths.specs.declared.Spine.{Spine}
 use Rattle.paths.specs.declared.Spine.TheVariants.{Line, Branch, Outside}
-use Rattle.paths.specs.Text.{read_to}
 use Rattle.paths.specs.Token.{is_join}
 use Rattle.paths.specs.Trace.{Origin, column_of, origin, origin_in, width, count, is_part, kerns_before, header_part, trace, part, lines}
 use Rattle.paths.specs.Walk.{alone}
@@ -27,9 +26,11 @@ use Rattle.paths.proofs.Origins.{origins}
 use Rattle.paths.proofs.TextLaws.{Held, row_held, part_suc}
 use Rattle.paths.proofs.TraceLaws.{origins_length, origins_at}
 use Rattle.paths.proofs.VoiceLaws.{Sound}
+use Rattle.paths.specs.TracedVoice.{voice}
+use Rattle.paths.proofs.TracedVoices.{traced_voice}
 use Rattle.holders.specs.Voice.{free_voice}
-use Rattle.holders.specs.Holders.{those_from, is_from, is_branch_of, parent_of, from_one, row_in, voice_of, with_branches, carries_on, line_columns, branch_columns, holder, holders, times, Five}
-use Rattle.holders.specs.Walk.{put, carries, is_split, is_of, entry, lines_from, branches_from, walked, kern_column}
+use Rattle.holders.specs.Holders.{those_from, is_from, is_branch_of, parent_of, from_one, with_branches, carries_on, line_columns, branch_columns, holder, holders, times, Five}
+use Rattle.holders.specs.Walk.{voice_of, put, carries, is_split, is_of, entry, lines_from, branches_from, walked, kern_column}
 use Rattle.holders.specs.declared.list.Holder.{Holder}
 use Rattle.holders.proofs.CarryLaws.{carried, forked, carry_total, carried_less, carries_at, carries_is}
 use Rattle.holders.proofs.FiveLaws.{Good, good_few, good_more, free_is, five}
@@ -268,13 +269,25 @@ module _ (h : List Bool) (recs : ℕ → Rec) (n q : ℕ) (row : List Spine) (ts
       ∙ count_ext (λ j. is_from i (origin_in (recs n) j)) (λ j. is_from i (origin ts j)) (λ j. ap (is_from i) (origin_is j)) (width ts))
       ∙ carries_is ts i (omega arith)
 
-  lines_found : map (λ i. holder h recs n q i (voice_of (spine_at (row_in (read_to h recs n)) i))) (line_columns h recs n q) ≡ line_list q column 0 false ts row
+  -- the voice of a line of the part is the one that the text says
+  voice_is : (j : ℕ) → is_of q (spine_at row j) ≡ true → voice h recs n j ≡ voice_of (spine_at row j)
+  voice_is j o = go (spine_at row j) refl o
+    where
+      go : (s : Spine) → spine_at row j ≡ s → is_of q s ≡ true → voice h recs n j ≡ voice_of s
+      go (Line p v) e o = traced_voice h recs n row there j p v e
+      go (Branch p) e o = clash cc
+      go Outside e o = clash cc
+
+  line_is : (j : ℕ) → is_of q (spine_at row j) ≡ true → holder h recs n q j (voice h recs n j) ≡ entry q column (j + 1) (voice_of (spine_at row j))
+  line_is j o = ap (λ (v : ℕ). holder h recs n q j v) (voice_is j o) ∙ holder_is j (voice_of (spine_at row j)) o
+
+  lines_found : map (λ i. holder h recs n q i (voice h recs n i)) (line_columns h recs n q) ≡ line_list q column 0 false ts row
   unfolding line_columns
   lines_found =
-      rw (there, ← held.size)
-      (those_lines q column (λ i. is_part q (part h recs n i) && carries_on h recs n q i) (λ i. holder h recs n q i (voice_of (spine_at row i))) 0 false ts row even
+      rw (← held.size)
+      (those_lines q column (λ i. is_part q (part h recs n i) && carries_on h recs n q i) (λ i. holder h recs n q i (voice h recs n i)) 0 false ts row even
       (λ e l. let z : 0 + e ≡ e = omega arith in rw z (ap₂ (λ (a b : Bool). a && b) (is_of_lem e) (carries_on_lem e l)))
-      (λ e o. let z : 0 + e ≡ e = omega arith in rw z (holder_is e (voice_of (spine_at row e)) o)))
+      (λ e o. let z : 0 + e ≡ e = omega arith in rw z (line_is e o)))
 
   branches_found : branch_columns h recs n q ≡ forks q 0 ts row
   unfolding branch_columns
