@@ -143,7 +143,7 @@ piece_low s h = go (is_number s) (goes_on (drop (first s) s)) refl
     go false c e = first_low s h
 
 -- ---- whether a `%` stands in it
-no_percent : (x : ℕ) → is_digit x ≡ true → eqb x 37 ≡ false
+pub no_percent : (x : ℕ) → is_digit x ≡ true → eqb x 37 ≡ false
 no_percent x d = ne_eqb x 37 (λ e. omega (arith, within_low 48 57 x d))
 
 digits_more : (x : ℕ) (xs : List ℕ) → is_digit x ≡ true → is_ratio (x ∷ take (more x xs) xs) ≡ false
