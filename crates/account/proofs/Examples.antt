@@ -8,7 +8,7 @@ use Rattle.slices.specs.Split.{join, split, pieces, index_of}
 use Rattle.lines.specs.Lines.{keep, without_crs, kind_of}
 use Rattle.lines.specs.Tokens.{is_null, is_kern, is_star, is_empty}
 use Rattle.paths.specs.Token.{path_token}
-use Rattle.paths.specs.Trace.{exchanges_right, exchanges_left, follows_join, gives_of, gives, before, width, source_of, source, look_back, origin, origin_in, trace, kerns_before, header_part, part, columns}
+use Rattle.paths.specs.Trace.{exchanges_right, exchanges_left, follows_join, gives_of, gives, before, width, source_of, source, look_back, origin, origin_in, trace, kerns_before, part_from, part_at_end, part, columns}
 use Rattle.paths.specs.TracedVoice.{some_below, lowest_free, kept, given, voice}
 use Rattle.repair.specs.Record.{record_of}
 use Rattle.repair.specs.Repair.{each, is_ordinary, is_bar, identical_bars, repair_of, repair_by, questions}
@@ -32,7 +32,7 @@ shown (i ∷ is) = i.part ∷ i.voice ∷ i.bar ∷ i.line ∷ i.column ∷ i.le
 
 unfoldable pub accounted : List ℕ → List ℕ
 unfolding bind head_d begins_with same_bytes join split pieces index_of keep without_crs kind_of is_null is_kern is_star is_empty path_token exchanges_right
-    exchanges_left follows_join gives_of gives before width source_of source look_back origin origin_in trace kerns_before header_part part columns
+    exchanges_left follows_join gives_of gives before width source_of source look_back origin origin_in trace kerns_before part_from part_at_end part columns
     some_below lowest_free kept given voice record_of each is_ordinary is_bar identical_bars repair_of repair_by questions digits number_from number_of
     exponent_of gcd_in written_at written counts duration_of smallest_of reduced_at ratio_at ratio_of ratio_value is_ratio before_percent behind_percent spelled_value spelled_length decimal reciprocal_length added dotted within lower_case upper_case lower_pitch upper_pitch
     pitch_of altered_by signs twos_complement is_letter joins into runs item_pieces item_of items_of more first goes_on first_piece next_item digits_in first_digits reciprocal_counts tuplet_fits ratio_counts has_value is_note

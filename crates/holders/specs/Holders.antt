@@ -2,7 +2,7 @@
 use Rattle.std.specs.Prelude.{Bool, true, false, cond, ◌&&◌, List, [], ◌∷◌, ◌++◌, map, ◌≡◌, ℕ, zero, suc, ◌+◌, ◌<◌, eqb, ltb, length, take, drop}
 use Rattle.std.proofs.Math.Option.{Option, none, some}
 use Rattle.paths.specs.Record.{Rec}
-use Rattle.paths.specs.Trace.{Origin, from, branch_of, nowhere, origin_in, columns, count, is_part, part, trace}
+use Rattle.paths.specs.Trace.{Ending, Origin, from, branch_of, nowhere, origin_in, columns, count, is_part, part, trace}
 use Rattle.paths.specs.TracedVoice.{voice}
 use Rattle.holders.specs.Voice.{free_voice}
 use Rattle.holders.specs.declared.list.Holder.{Holder}
@@ -31,10 +31,10 @@ parent_of (from k) = k
 parent_of (branch_of k) = k
 parent_of nowhere = 0
 
--- a column from 1, 0 for none
-abbrev pub from_one : Option ℕ → ℕ
+-- the column at which a trace ends, from 1, 0 for none
+abbrev pub from_one : Option Ending → ℕ
 from_one none = 0
-from_one (some k) = k + 1
+from_one (some e) = e.column + 1
 
 -- "then the branches in order, ending with the one that found nothing": behind those so far, one of each of these columns
 unfoldable pub with_branches : (ℕ → ℕ → Holder) → List Holder → List ℕ → List Holder
