@@ -19,7 +19,7 @@ use Rattle.paths.specs.declared.Spine.TheVariants.{Line, Branch, Outside}
 use Rattle.paths.specs.Token.{is_join}
 use Rattle.paths.specs.Trace.{Origin, column_of, origin, origin_in, width, count, is_part, kerns_before, Ending, opens, parts_to, opened_part, part_from, part_at_end, end_part, trace, part, lines}
 use Rattle.paths.specs.Walk.{alone}
-use Rattle.paths.proofs.Claims.{columns_are, lines_are, sound_voiced}
+use Rattle.paths.proofs.Claims.{origin_is, columns_are, lines_are, sound_voiced}
 use Rattle.paths.proofs.Columns.{count_ext}
 use Rattle.paths.proofs.Counts.{bit, same, same_yes, same_no, same_le, total, at, of_line, of_branch, of_part, high, four_total, total_four, part_total}
 use Rattle.paths.proofs.Origins.{origins}
@@ -265,16 +265,12 @@ module _ (h : List Bool) (recs : ℕ → Rec) (n q : ℕ) (row : List Spine) (ts
   holder_is : (j v : ℕ) → is_of q (spine_at row j) ≡ true → holder h recs n q j v ≡ entry q column (j + 1) v
   holder_is j v o = ap (λ (c : ℕ). record { column = j + 1; voice = v; header = c }) (header_is h recs n q j (is_of_lem j ∙ o))
 
-  origin_is : (j : ℕ) → origin_in (recs n) j ≡ origin ts j
-  unfolding origin_in
-  origin_is j = ap (λ (r : Rec). origin_in r j) is
-
   carries_on_lem : (i : ℕ) → i < length row → carries_on h recs n q i ≡ carries_at false ts i
   unfolding carries_on
   carries_on_lem i l =
       ap (ltb 0)
       (ap (count (λ j. is_from i (origin_in (recs n) j))) (columns_are h recs n row there ts is even)
-      ∙ count_ext (λ j. is_from i (origin_in (recs n) j)) (λ j. is_from i (origin ts j)) (λ j. ap (is_from i) (origin_is j)) (width ts))
+      ∙ count_ext (λ j. is_from i (origin_in (recs n) j)) (λ j. is_from i (origin ts j)) (λ j. ap (is_from i) (origin_is h recs n row there ts is even j)) (width ts))
       ∙ carries_is ts i (omega arith)
 
   -- the voice of a line of the part is the one that the text says
@@ -304,8 +300,8 @@ module _ (h : List Bool) (recs : ℕ → Rec) (n q : ℕ) (row : List Spine) (ts
       (those_gathered q (part h recs n) (λ j. is_branch_of (origin_in (recs n) j) && is_part q (part h recs (suc n) j)) (λ j. parent_of (origin_in (recs n) j)) 0 (origins alone 0 ts)
       (λ e. let z : 0 + e ≡ e = omega arith in
       rw z (ap (λ (p : Option ℕ). is_branch_of (origin_in (recs n) e) && is_part q p) (part_on h recs n e (ap (λ (r : Rec). opens r e) is))
-      ∙ ap (λ (o : Origin). is_branch_of o && is_part q (bind (column_of o) (part h recs n))) (origin_is e ∙ sym (origins_at ts e))))
-      (λ e. let z : 0 + e ≡ e = omega arith in rw z (ap parent_of (origin_is e ∙ sym (origins_at ts e))))
+      ∙ ap (λ (o : Origin). is_branch_of o && is_part q (bind (column_of o) (part h recs n))) (origin_is h recs n row there ts is even e ∙ sym (origins_at ts e))))
+      (λ e. let z : 0 + e ≡ e = omega arith in rw z (ap parent_of (origin_is h recs n row there ts is even e ∙ sym (origins_at ts e))))
       ∙ gathered_forks q (part h recs n) alone 0 ts row even (λ e. let z : 0 + e ≡ e = omega arith in rw z (is_of_lem e)) (λ e. clash cc))
 
   -- the passes give the list of the trace
