@@ -5,7 +5,7 @@ use Rattle.duration.specs.Ratio.{spelled_value}
 use Rattle.duration.specs.declared.Value.{Value}
 use Rattle.peers.specs.Peers.{kern_cells, agreed_digits}
 
--- the value of the digits that the summary of a record gives each bare column
+-- the value of the length that the summary of a record gives each bare column
 abbrev pub agreed_in : List ℕ → List ℕ → Option Value
 agreed_in line row = spelled_value (agreed_digits (tokens_of line) (kern_cells row))
 

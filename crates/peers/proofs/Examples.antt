@@ -17,11 +17,11 @@ use Rattle.peers.specs.Peers.{only_signs, is_bare, leading, forbids, offer_of, p
 pub data Line : Type 0 where
   -- a token, and whether it is a pitch without a length
   bare : List ℕ → Bool → Line
-  -- the tokens on both sides of a column, in kern spines, and the digits that they offer it
+  -- the tokens on both sides of a column, in kern spines, and the length that they offer it
   peers : List ℕ → List ℕ → List ℕ → Line
   -- two lengths of one worth, which neighbours spell in two ways, so that they offer none
   apart : List ℕ → List ℕ → Line
-  -- the tokens of a record, whether each is in a kern spine, a column, and the digits
+  -- the tokens of a record, whether each is in a kern spine, a column, and the length
   offered : List (List ℕ) → List Bool → ℕ → List ℕ → Line
 
 abbrev pub same_length : Fraction → Fraction → Bool

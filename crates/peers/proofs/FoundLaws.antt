@@ -1,4 +1,4 @@
--- What was met is of digits that are offered.
+-- What was met is of lengths that are offered.
 use mathlib.Core.Path.{◌≡◌, ap, ◌∙◌}
 use mathlib.Core.Bool.{true}
 use mathlib.Core.List.{List, []}
@@ -34,7 +34,7 @@ whole_tally (One d) h e = cc
 whole_tally (More d) h e = cc
 whole_tally Broken h e = h refl
 
--- the value of an answer's digits
+-- the value of an answer's length
 pub value_of_digits : {ds : List ℕ} {v : Option Value} (r : Option (Bor (List ℕ))) → MatchOption r (v ≡ None) (λ d. v ≡ spelled_value d.now) → digits_of r ≡ ds → v ≡ spelled_value ds
 value_of_digits None m e = m ∙ sym no_value ∙ ap spelled_value e
 value_of_digits (Given d) m e = m ∙ ap spelled_value e

@@ -27,6 +27,7 @@ first_digit : (x : ℕ) (d : List ℕ) → numeral (x ∷ d) ≡ true → is_dig
 unfolding numeral
 first_digit x d n = (both (is_digit x) (numeral d) n).0
 
+-- digits with no digit behind them are the first run
 more_front : (x : ℕ) (d rest : List ℕ) → numeral (x ∷ d) ≡ true → is_number rest ≡ false → more x (d ++ rest) ≡ length d
 unfolding more joins numeral
 more_front x [] [] n s = refl
@@ -35,6 +36,7 @@ more_front x (y ∷ d) rest n s =
     let b = both (is_digit x) (numeral (y ∷ d)) n in
     rw (b.0, first_digit y d b.1) (ap suc (more_front y d rest b.1 s))
 
+-- a first run that begins with a digit is of digits, with none behind
 front : (x : ℕ) (xs : List ℕ) → is_digit x ≡ true → (numeral (x ∷ take (more x xs) xs) ≡ true) × (is_number (drop (more x xs) xs) ≡ false)
 unfolding more joins numeral within
 front x [] d = (rw d, refl)

@@ -12,7 +12,7 @@ use Rattle.peers.specs.Peers.{is_bare, offer_of, peers_from, peer_reciprocal, Ta
 use Rattle.peers.proofs.OfferLaws.{bare_offers}
 use Rattle.peers.proofs.TallyLaws.{tallied, tally_broken, tally_uniform}
 
--- the digits of a tally are some
+-- the length of a tally is some bytes
 abbrev pub Some : Tally → Type 0
 Some none = Unit
 Some (one ds) = length ds ≡ 0 → ⊥

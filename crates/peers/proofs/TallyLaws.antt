@@ -1,4 +1,4 @@
--- Neighbour by neighbour, the digits that all offer.
+-- Neighbour by neighbour, the length that all offer.
 use mathlib.Core.Path.{◌≡◌, refl, sym, ◌∙◌}
 use Prim.Native.Nat.{ℕ}
 use mathlib.Core.List.{List, [], ◌∷◌}

@@ -63,7 +63,7 @@ unfoldable pub kern_cells : List ℕ → List Bool
 kern_cells [] = []
 kern_cells (c ∷ cs) = leb 8 c ∷ kern_cells cs
 
--- the digits of an answer
+-- the length of an answer
 abbrev pub digits_of : Option (Bor (List ℕ)) → List ℕ
 digits_of None = []
 digits_of (Some ds) = ds.now
@@ -129,6 +129,6 @@ nothing_met = record { lacking = false; tally = none }
 abbrev pub summary_of : List (List ℕ) → List Bool → Agreement
 summary_of ts kern = summed nothing_met (kern_tokens ts kern)
 
--- the digits that the summary of a record gives each bare column
+-- the length that the summary of a record gives each bare column
 abbrev pub agreed_digits : List (List ℕ) → List Bool → List ℕ
 agreed_digits ts kern = settled (summary_of ts kern).tally

@@ -110,7 +110,7 @@ impl<'a> Found<'a> {
         }
     }
 
-    // The digits that more than one neighbour offers, if all do.
+    // The length that more than one neighbour offers, if all do.
     fn settle(self) -> Option<&'a [u8]>
         ensures { digits_of result ≡ settled (tally_of self.entry) }
     {
@@ -139,7 +139,7 @@ impl<'a> Summary<'a> {
     }
 }
 
-// The digits that a record gives each of its bare columns, by one pass over its columns. A cell of the row is below 8 for a spine outside kern.
+// The length that a record gives each of its bare columns, as it is spelled, by one pass over its columns. A cell of the row is below 8 for a spine outside kern.
 pub fn agreed_reciprocal<'a>(line: &'a [u8], row: &[u16]) -> Option<&'a [u8]>
     ensures { digits_of result ≡ agreed_digits (tokens_of line.now) (kern_cells row.now) }
 {
@@ -166,7 +166,7 @@ pub fn agreed_reciprocal<'a>(line: &'a [u8], row: &[u16]) -> Option<&'a [u8]>
     summary.found.settle()
 }
 
-// The value of those digits, None where there are none.
+// The value of that length, None where there is none.
 pub fn agreed_duration(line: &[u8], row: &[u16]) -> Option<Value>
     ensures { result ≡ spelled_value (agreed_digits (tokens_of line.now) (kern_cells row.now)) }
 {

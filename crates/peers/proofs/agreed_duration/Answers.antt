@@ -1,4 +1,4 @@
--- The value of the digits that are named.
+-- The value of the length that is named.
 use Rattle.peers.proofs.FoundLaws.{value_of_digits}
 use Rattle.peers.proofs.agreed_duration.Goals as goal
 
