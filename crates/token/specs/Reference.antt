@@ -1,4 +1,5 @@
--- The pitches of a note token by the **kern reference, written without document 01.
+-- The pitches of a note token by the **kern reference, within the octaves and alterations that a sheet has; other bytes between the letters and their
+-- accidental, which the reference has as an error, are let pass.
 use Rattle.std.specs.Prelude.{◌≡◌, ℕ, suc, ◌+◌, ◌-◌, min, List, [], ◌∷◌, ◌++◌, replicate, Bool, cond, leb, Option, Some, None}
 use Rattle.std.specs.List.{filter}
 use Rattle.slices.specs.Ascii.{ascii}
