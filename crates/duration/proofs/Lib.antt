@@ -12,4 +12,5 @@ pub mod Lengths
 pub mod Reference
 pub mod Ratios
 pub mod Spelled
+pub mod RatioTerms
 pub mod Examples

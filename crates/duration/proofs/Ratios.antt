@@ -52,7 +52,7 @@ smallest_is n m h =
     record { ten = r.0; not_below = r.1; next_below = r.2 }
 
 -- ---- "normal to actual in lowest terms": the tuplet of a, in the place of b
-quotient : (a g : ℕ) → g ∣ a → a / g * g ≡ a
+pub quotient : (a g : ℕ) → g ∣ a → a / g * g ≡ a
 quotient a g h = div-mul_cancel g h
 
 quotient_some : (a g : ℕ) → g ∣ a → 0 < a → 0 < a / g
@@ -62,7 +62,7 @@ quotient_some a g h some = go (a / g) refl
     go zero e = absurd (let z : 0 * g ≡ a = rw e at (quotient a g h) in omega arith)
     go (suc q) e = omega arith
 
-lowest : (a b k : ℕ) → 0 < a → k ∣ (a / gcd_of a b) → k ∣ (b / gcd_of a b) → k ≡ 1
+pub lowest : (a b k : ℕ) → 0 < a → k ∣ (a / gcd_of a b) → k ∣ (b / gcd_of a b) → k ≡ 1
 lowest a b k some h l =
     let g = gcd_of a b in
     let d = gcd_divides a b in

@@ -11,11 +11,32 @@ use lib.Seq.{take_at, drop_at}
 use borrow.Author.Tests.{le-leb, eqb-true, eqb-false}
 use Rattle.paths.specs.declared.Spine.TheVariants.{Line}
 use Rattle.paths.specs.Voices.{lowest}
+use Rattle.paths.specs.TracedVoice.{lowest_free}
 use Rattle.paths.proofs.Counts.{bit, same, same_yes, same_le, four_at, low_bit}
 use Rattle.paths.proofs.VoiceLaws.{LowestIs, lowest_is}
-use Rattle.holders.specs.Voice.{has, or_four, free_voice}
+use Rattle.holders.specs.Voice.{has, free_voice}
 use Rattle.holders.specs.Holders.{with_branches, times, Five}
 use Rattle.holders.specs.declared.list.Holder.{Holder}
+
+-- ---- the text's lowest free voice is the reading's, 4 for none
+abbrev pub or_four : Option ℕ → ℕ
+or_four none = 4
+or_four (some v) = v
+
+pub lowest_same : (taken : ℕ → Bool) → lowest_free taken ≡ or_four (lowest taken)
+unfolding lowest_free lowest
+lowest_same taken = go (taken 0) (taken 1) (taken 2) (taken 3)
+  where
+    go : (a b c d : Bool) → cond a (cond b (cond c (cond d 4 3) 2) 1) 0 ≡ or_four (cond a (cond b (cond c (cond d none (some 3)) (some 2)) (some 1)) (some 0))
+    go false b c d = refl
+    go true false c d = refl
+    go true true false d = refl
+    go true true true false = refl
+    go true true true true = refl
+
+pub free_same : (hs : List Holder) → free_voice hs ≡ or_four (lowest (λ v. has v hs))
+unfolding free_voice
+free_same hs = lowest_same (λ v. has v hs)
 
 has_times : (v : ℕ) (hs : List Holder) → has v hs ≡ leb 1 (times v hs)
 unfolding has times
@@ -32,16 +53,14 @@ pub record Free (hs : List Holder) (v : ℕ) : Type 0 where
   pub unheld : times v hs ≡ 0
 
 pub free_is : (hs : List Holder) → (v : ℕ) → free_voice hs ≡ v → (v ≡ 4 → ⊥) → Free hs v
-unfolding free_voice
-free_is hs v = go (lowest (λ v. has v hs)) (lowest_is (λ v. times v hs) (λ v. has v hs) (λ v. has_times v hs))
+free_is hs v e = go (lowest (λ v. has v hs)) (lowest_is (λ v. times v hs) (λ v. has v hs) (λ v. has_times v hs)) (sym (free_same hs) ∙ e)
   where
     go : (o : Option ℕ) → LowestIs (λ v. times v hs) o → or_four o ≡ v → (v ≡ 4 → ⊥) → Free hs v
     go none k e n = absurd (n (sym e))
     go (some u) k e n = record { low = omega (arith, k.0, e); unheld = ap (λ (w : ℕ). times w hs) (sym e) ∙ k.1 }
 
 full_is : (hs : List Holder) → free_voice hs ≡ 4 → LowestIs (λ v. times v hs) none
-unfolding free_voice
-full_is hs = go (lowest (λ v. has v hs)) (lowest_is (λ v. times v hs) (λ v. has v hs) (λ v. has_times v hs))
+full_is hs e = go (lowest (λ v. has v hs)) (lowest_is (λ v. times v hs) (λ v. has v hs) (λ v. has_times v hs)) (sym (free_same hs) ∙ e)
   where
     go : (o : Option ℕ) → LowestIs (λ v. times v hs) o → or_four o ≡ 4 → LowestIs (λ v. times v hs) none
     go none k e = k

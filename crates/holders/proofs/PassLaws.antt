@@ -20,7 +20,8 @@ use Rattle.spines.specs.Table.{active_at, active_spine, active_row}
 use Rattle.spines.specs.declared.active.Line.{Line as ActiveLine}
 use Rattle.spines.specs.Tokens.{path_tokens, record_tokens, at_hand, Ahead}
 use Rattle.spines.proofs.TableLaws.{active_drop}
-use Rattle.holders.specs.Voice.{has, or_four, free_voice}
+use Rattle.holders.specs.Voice.{has, free_voice}
+use Rattle.holders.proofs.FiveLaws.{or_four, free_same}
 use Rattle.std.proofs.Common.{Option, Some, None, is_some, unwrap_or}
 use Rattle.std.specs.List.{list_any, slice_get, filter, enumerate_from}
 use Rattle.std.specs.Option.{option_map}
@@ -157,8 +158,7 @@ module _ {p c : ℕ} {line : List ℕ} {table : List (Option ActiveLine)} {hs he
     module _ (found : Option ℕ) {held' : List Holder} (f : b ≡ true) (free : found_voice found ≡ lowest (λ v. has v held))
         (more : held' ≡ put held (entry p c (i + 1) (unwrap_or found 4))) where
       value : unwrap_or found 4 ≡ free_voice held
-      unfolding free_voice
-      value = go found ∙ ap or_four free
+      value = go found ∙ (ap or_four free ∙ sym (free_same held))
         where
           go : (o : Option ℕ) → unwrap_or o 4 ≡ or_four (found_voice o)
           go None = refl

@@ -1,5 +1,6 @@
 -- What the reading makes of a token is what the text says: a note where it says so, of the same length.
 use mathlib.Core.Path.{◌≡◌, refl, sym, ap, subst, ◌∙◌}
+use mathlib.Core.Logic.{◌↔◌}
 use Prim.Native.Nat.{ℕ, suc, ◌*◌, ◌^◌, ◌≤◌}
 use native.Mathlib.Omega.{arith}
 use mathlib.Core.List.{List, [], ◌∷◌}
@@ -8,6 +9,7 @@ use lib.Dec.{eqb, leb, ltb}
 use lib.ListN.{length, get_or}
 use borrow.Author.Tests.{eqb-true, eqb-false, le-leb, lt-ltb, le-ltb}
 use Rattle.slices.specs.Compare.{same_bytes}
+use Rattle.slices.proofs.TestLaws.{clash}
 use Rattle.duration.specs.Duration.{number, counts, written, duration_of}
 use Rattle.duration.specs.Length.{Fraction, ◌over◌, SameLength, note_length}
 use Rattle.duration.specs.Reciprocal.{dotted}
@@ -20,6 +22,7 @@ use Rattle.duration.proofs.Numbers.{number_decimal}
 use Rattle.duration.proofs.Kept.{counts_worth}
 use Rattle.duration.proofs.Ratios.{one_to_one}
 use Rattle.duration.proofs.Spelled.{plain_spelled, tuplet_spelled}
+use Rattle.duration.proofs.RatioTerms.{RatioSaid, digits_said}
 use Rattle.items.specs.Items.{is_digit, is_letter, pieces_of, length_item, item_of, items_of, items}
 use Rattle.items.specs.declared.Item.{Item}
 use Rattle.items.specs.declared.Item.TheVariants.{Digits, Ratio, Letters, Blank, Mark}
@@ -139,6 +142,31 @@ has_value_lem s = go (is_ratio s)
     go : (t : Bool) → is_value (cond t (ratio_value (before_percent s) (behind_percent s)) (duration_of s)) ≡ cond t (ratio_counts (before_percent s) (behind_percent s)) (reciprocal_counts s)
     go true = ratio_has (before_percent s) (behind_percent s)
     go false = reciprocal_has s
+
+-- "n%m .. lasts m/n": a ratio has a value exactly where the request says so, in its words alone
+value_there : (r : Option Value) → is_value r ≡ true → r ≡ None → ⊥
+value_there None e f = clash cc
+value_there (Some v) e f = clash cc
+
+there_value : (r : Option Value) → (r ≡ None → ⊥) → is_value r ≡ true
+there_value None h = absurd (h refl)
+there_value (Some v) h = refl
+
+pub ratio_has_value : (s : List ℕ) → is_ratio s ≡ true → (has_value s ≡ true) ↔ RatioSaid (before_percent s) (behind_percent s)
+unfolding has_value
+ratio_has_value s e = rw e (to, from)
+  where
+    n : List ℕ
+    n = before_percent s
+
+    m : List ℕ
+    m = behind_percent s
+
+    to : ratio_counts n m ≡ true → RatioSaid n m
+    to h = (digits_said n m).0 (value_there (ratio_value n m) (ratio_has n m ∙ h))
+
+    from : RatioSaid n m → ratio_counts n m ≡ true
+    from r = sym (ratio_has n m) ∙ there_value (ratio_value n m) ((digits_said n m).1 r)
 
 abbrev pub is_heard : Outcome → Bool
 is_heard (Ok None) = false
