@@ -200,6 +200,14 @@ pub fn edges() -> ExitCode {
         hold(format!("**kern\n4c{}\n4c{}\n4c{}n{}\n", "#".repeat(signs), "-".repeat(signs), "#".repeat(signs), "-".repeat(signs)).into_bytes());
         hold(format!("**kern\n4c{}\n4c{}\n{}\n", ".".repeat(signs), "'".repeat(signs), "4c ".repeat(signs)).into_bytes());
     }
+    // every ratio of two numbers from 1 to 255
+    let mut ratios = String::from("**kern\n");
+    for n in 1..=255 {
+        for m in 1..=255 {
+            ratios += &format!("{n}%{m}c\n");
+        }
+    }
+    hold(ratios.into_bytes());
     run.said("edges");
     finish(&[run])
 }
