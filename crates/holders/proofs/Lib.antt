@@ -6,3 +6,4 @@ pub mod ForkLaws
 pub mod FiveLaws
 pub mod AgreeLaws
 pub mod OverLaws
+pub mod BranchLaws
