@@ -12,7 +12,7 @@ mod refusal;
 mod sheet;
 
 pub use refusal::Refusal;
-pub use sheet::{Bar, End, Head, Note, Notice, Part, Pitch, Record, Records, Span, head, walk};
+pub use sheet::{Bar, End, Head, Note, Notice, Part, Pitch, Record, Records, Span, head, is_whole, walk};
 
 /// The most bytes that a text may have.
 pub const MAX_TEXT: usize = 67_108_864;
@@ -23,9 +23,27 @@ pub fn read(text: &[u8], out: &mut [u8]) -> Result<usize, Refusal> {
     answered(proved::read(text, out))
 }
 
-/// The sheet of a text.
+/// The sheet of a text. It is read once, into room for most sheets, and again where its sheet is longer.
 pub fn sheet_of(text: &[u8]) -> Result<Vec<u8>, Refusal> {
-    measured(|out| read(text, out))
+    // Memory that isn't touched isn't taken.
+    let mut sheet = vec![0; room(text.len())];
+    match read(text, &mut sheet) {
+        Ok(length) => {
+            sheet.truncate(length);
+            sheet.shrink_to_fit();
+            Ok(sheet)
+        }
+        Err(Refusal { number: 13, .. }) => {
+            drop(sheet);
+            measured(|out| read(text, out))
+        }
+        Err(refusal) => Err(refusal),
+    }
+}
+
+/// Room for the sheet of a text of music: a note's token has two bytes and more, its NOTE about thirty, and a text has at most 100,000 notes.
+fn room(text: usize) -> usize {
+    (16 * text + 256).min(text + (8 << 20))
 }
 
 /// A line that a record carries on, or a branch that it adds: its column before the record and the part's header column, from 1, and its voice.

@@ -172,6 +172,16 @@ pub fn notes(records: &[u8]) -> Vec<Note> {
     Records { rest: records }.filter_map(|record| if let Record::Note(note) = record { Some(note) } else { None }).collect()
 }
 
+/// Whether the bytes are a whole sheet: records from the head up to its length, as many NOTEs as it says, and nothing behind.
+pub fn is_whole(sheet: &[u8]) -> bool {
+    let Some(head) = head(sheet).filter(|h| h.length as usize == sheet.len()) else { return false };
+    let (mut records, mut notes) = (walk(sheet), 0);
+    while let Some(record) = records.next() {
+        notes += u32::from(matches!(record, Record::Note(_)));
+    }
+    records.rest.is_empty() && notes == head.notes
+}
+
 /// The walk over a sheet.
 pub struct Records<'a> {
     rest: &'a [u8],
