@@ -277,7 +277,7 @@ fn accepted(file: &OsStr, done: &Sheet, json: bool, most: usize) -> Status {
 
 fn rests(ticks: u32, divisions: u32, notes: u32) -> Status {
     match ruevault::rests_of(ticks, divisions, notes) {
-        Ok(rests) => printed(|out| rests.iter().try_for_each(|rest| writeln!(out, "{}", words::note(rest)))),
+        Ok(rests) => printed(|out| rests.iter().try_for_each(|rest| writeln!(out, "{rest}"))),
         Err(Refusal { number, .. }) => {
             let words = Refusal { number, line: 0, figure: 0 }.words();
             say(&format!("ruevault: error[{number}]: {words}\n"));

@@ -10,8 +10,11 @@ use std::{error, fmt};
 /// ```
 #[derive(Clone, Copy, Debug, PartialEq, Eq)]
 pub struct Refusal {
+    /// 1 to 15 or 17, as `kern.h` names them.
     pub number: u32,
+    /// Of the text, from 1.
     pub line: u64,
+    /// What the number counts or names, 0 where it has nothing to.
     pub figure: u64,
 }
 

@@ -14,7 +14,7 @@ pub struct Score<'a> {
     /// Their names, in the same order.
     pub labels: Vec<String>,
     pub end: Option<End>,
-    pub notices: Vec<Notice>,
+    pub notices: Vec<Notice<'a>>,
     pub bars: u32,
     /// The first bar as the text gives it, by part: without the meter and the key that a sheet fills in.
     pub given: Vec<Bar>,
@@ -28,7 +28,7 @@ pub struct Score<'a> {
 #[derive(Default)]
 pub struct Measure<'a> {
     pub number: u32,
-    pub notes: Vec<Note>,
+    pub notes: Vec<Note<'a>>,
     /// By rising part.
     pub bars: Vec<Bar>,
     pub lines: Lines<'a>,
@@ -66,7 +66,7 @@ impl<'a> Score<'a> {
                 Record::Bar(bar) => {
                     score.bars = bar.number;
                     if bar.number == 1 {
-                        score.clefs.push(bar.clef != 0);
+                        score.clefs.push(bar.clef.is_some());
                     }
                 }
                 Record::Part(part) => score.parts.push(part),
@@ -90,7 +90,7 @@ impl<'a> Score<'a> {
     /// Whether the text itself gives the meter and the key of a bar, where that is known.
     pub fn gives(&self, bar: &Bar) -> (bool, bool) {
         match self.given.get(usize::from(bar.part)) {
-            Some(given) if bar.number == 1 => (given.numerator != 0, given.key_given),
+            Some(given) if bar.number == 1 => (given.meter.is_some(), given.key_given),
             _ => (true, true),
         }
     }

@@ -4,7 +4,7 @@ use crate::message::grouped;
 use crate::score::{Lines, Measure, Score};
 use crate::unread::Unread;
 use crate::words;
-use ruevault::{Bar, Note, Span};
+use ruevault::{Bar, Barline, Note, Span};
 use std::io::{self, Write};
 
 /// How wide a printed line is at most, where its pieces allow it.
@@ -46,7 +46,7 @@ fn show_parts(score: &Score, out: &mut impl Write) -> io::Result<()> {
             write!(out, " (named in the text, {} bytes from byte {})", p.name.len, p.name.at)?;
         }
         let given = score.clefs.get(usize::from(p.part)).is_none_or(|given| *given);
-        writeln!(out, ", {}{}", words::clef(p.clef), if given { "" } else { " (not given)" })?;
+        writeln!(out, ", {}{}", p.clef, if given { "" } else { " (not given)" })?;
     }
     Ok(())
 }
@@ -67,8 +67,8 @@ fn heading(measure: &Measure) -> String {
 fn show_bar(score: &Score, measure: &Measure, out: &mut impl Write) -> io::Result<()> {
     let Some(first) = measure.bars.first() else { return Ok(()) };
     writeln!(out, "\n{}", heading(measure))?;
-    if first.left != 0 {
-        writeln!(out, "  barline on the left: {}", words::barline(first.left))?;
+    if first.left != Barline::Normal {
+        writeln!(out, "  barline on the left: {}", first.left)?;
     }
     for (part, label) in score.parts.iter().zip(&score.labels) {
         // BARs stand by rising part.
@@ -78,7 +78,7 @@ fn show_bar(score: &Score, measure: &Measure, out: &mut impl Write) -> io::Resul
     for path in &measure.lines.paths {
         writeln!(out, "    line {}: {}", path.number, words::plain(path.bytes))?;
     }
-    writeln!(out, "  barline: {}", words::barline(first.right))
+    writeln!(out, "  barline: {}", first.right)
 }
 
 fn show_settings(score: &Score, label: &str, bar: Option<&Bar>, out: &mut impl Write) -> io::Result<()> {
@@ -134,7 +134,7 @@ fn write_wrapped(label: &str, pieces: &[Piece], out: &mut impl Write) -> io::Res
 
 /// A note, with its source line before it in a bar whose lines split, join, exchange or end.
 fn in_its_place(n: &Note, with_line: bool) -> String {
-    if with_line { format!("[{}] {}", n.line, words::note(n)) } else { words::note(n) }
+    if with_line { format!("[{}] {n}", n.line) } else { n.to_string() }
 }
 
 fn not_read(u: &Unread) -> String {
@@ -178,7 +178,7 @@ fn show_notices(score: &Score, out: &mut impl Write) -> io::Result<()> {
     }
     for n in &score.notices {
         let token = if n.column == 0 { String::new() } else { format!(", token {}", n.column) };
-        let said = if n.number == 17 { format!(": `{}`", words::shortened(&n.bytes)) } else { String::new() };
+        let said = if n.number == 17 { format!(": `{}`", words::shortened(n.bytes)) } else { String::new() };
         writeln!(out, "  line {}{token}: {}{said}", n.line, ruevault::notice_reason(n.number))?;
     }
     let notes = ruevault::head(score.sheet).map_or(0, |h| h.notes);

@@ -65,7 +65,7 @@ fn part(score: &Score, p: &Part, label: &str, out: &mut Json) {
         o.field("name_given", |v| v.boolean(p.name_given));
         o.field("name", |v| span(score, p.name, v));
         o.field("short_name", |v| span(score, p.short_name, v));
-        o.field("clef", |v| v.number(p.clef));
+        o.field("clef", |v| v.number(p.clef.number()));
     });
 }
 
@@ -86,16 +86,16 @@ fn bar(score: &Score, b: &Bar, out: &mut Json) {
     let (meter_given, key_given) = score.gives(b);
     out.object(|o| {
         o.field("part", |v| v.number(b.part));
-        o.field("left", |v| v.number(b.left));
-        o.field("right", |v| v.number(b.right));
-        o.field("clef", |v| v.number(b.clef));
-        o.field("numerator", |v| v.number(b.numerator));
-        o.field("denominator", |v| v.number(b.denominator));
-        o.field("meter_given", |v| v.boolean(b.numerator != 0 && meter_given));
-        o.field("sign", |v| v.number(b.symbol));
+        o.field("left", |v| v.number(b.left.number()));
+        o.field("right", |v| v.number(b.right.number()));
+        o.field("clef", |v| v.number(b.clef.map_or(0, |c| c.number())));
+        o.field("numerator", |v| v.number(b.meter.map_or(0, |m| m.numerator)));
+        o.field("denominator", |v| v.number(b.meter.map_or(0, |m| m.denominator)));
+        o.field("meter_given", |v| v.boolean(b.meter.is_some() && meter_given));
+        o.field("sign", |v| v.number(b.sign.map_or(0, |s| s.number())));
         o.field("key", |v| v.boolean(b.key_given));
         o.field("fifths", |v| v.number(b.fifths));
-        o.field("mode", |v| v.number(b.mode));
+        o.field("mode", |v| v.number(b.mode.number()));
         o.field("key_given", |v| v.boolean(b.key_given && key_given));
         o.field("tempo", |v| v.number(b.tempo));
     });
@@ -108,17 +108,17 @@ fn note(n: &Note, out: &mut Json) {
             ("voice", n.voice.into()),
             ("line", n.line),
             ("token", n.column.into()),
-            ("value", n.value.into()),
+            ("value", n.value.number().into()),
             ("dots", n.dots.into()),
             ("actual", n.actual.into()),
             ("normal", n.normal.into()),
-            ("beam", n.beam.into()),
+            ("beam", n.beam.map_or(0, |b| b.number()).into()),
             ("flags", n.flags.into()),
         ] {
             o.field(name, |v| v.number(number));
         }
-        o.field("pitches", |v| v.array(|a| n.pitches.iter().for_each(|p| a.item(|v| pitch(p, v)))));
-        o.field("articulations", |v| v.array(|a| n.articulations.iter().for_each(|x| a.item(|v| v.number(*x)))));
+        o.field("pitches", |v| v.array(|a| n.pitches().for_each(|p| a.item(|v| pitch(&p, v)))));
+        o.field("articulations", |v| v.array(|a| n.articulations().for_each(|x| a.item(|v| v.number(x.number())))));
     });
 }
 
@@ -181,7 +181,7 @@ fn notice(score: &Score, n: &Notice, column: Option<u64>, out: &mut Json) {
         if let Some(column) = column {
             o.field("column", |v| v.number(column));
         }
-        o.field("preserved", |v| if n.number == 17 { v.text(&n.bytes) } else { span(score, n.value, v) });
+        o.field("preserved", |v| if n.number == 17 { v.text(n.bytes) } else { span(score, n.value, v) });
         if n.number == 1 {
             o.field("key", |v| span(score, n.key, v));
         }

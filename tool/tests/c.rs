@@ -110,9 +110,9 @@ fn walks_agree() {
     for (line, sheet) in done.said.lines().zip(&sheets) {
         let counted = ruevault::head(sheet).is_some_and(|h| h.length as usize <= sheet.len());
         // A sheet that is cut below its length has no records in C.
-        let records = if counted { ruevault::records(sheet) } else { Vec::new() };
+        let records: Vec<Record> = if counted { ruevault::walk(sheet).collect() } else { Vec::new() };
         let kind = |r: &Record| match r {
-            Record::Note(n) => format!("1.{}", 28 + 3 * n.pitches.len() + n.articulations.len()),
+            Record::Note(n) => format!("1.{}", 28 + 3 * n.pitches().len() + n.articulations().count()),
             Record::Bar(_) => "2.20".to_string(),
             Record::Part(_) => "3.20".to_string(),
             Record::End(_) => "4.32".to_string(),
@@ -120,10 +120,10 @@ fn walks_agree() {
         };
         let said: Vec<&str> = line.split(' ').collect();
         let wanted: Vec<String> = records.iter().map(kind).collect();
-        assert_eq!(said[..said.len() - 1], wanted[..], "{sheet:?}");
-        if *said.last().unwrap() == "1" && ruevault::head(sheet).unwrap().length as usize == sheet.len() {
-            let notes = records.iter().filter(|r| matches!(r, Record::Note(_))).count() as u32;
-            assert_eq!(ruevault::is_whole(sheet), ruevault::head(sheet).unwrap().notes == notes);
+        // The wrapper ends too where a field has a number that it can't have.
+        assert!(said[..said.len() - 1].len() >= wanted.len() && said[..wanted.len()] == wanted[..], "{sheet:?}");
+        if ruevault::is_whole(sheet) {
+            assert_eq!((said.len() - 1, *said.last().unwrap()), (wanted.len(), "1"));
         }
     }
 }
