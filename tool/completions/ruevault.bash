@@ -3,12 +3,12 @@ _ruevault() {
     local word=${COMP_WORDS[COMP_CWORD]} command=${COMP_WORDS[1]}
     local words=
     if [ "$COMP_CWORD" -eq 1 ]; then
-        words="read show check rests help --help --version"
+        words="read show check proof rests help --help --version"
     elif [ "$command" = help ]; then
-        words="read show check rests help"
+        words="read show check proof rests help"
     elif [[ $word == -* ]]; then
         case $command in
-            read) words="-o --output --help" ;;
+            read | proof) words="-o --output --help" ;;
             show) words="--json --help" ;;
             check) words="--json --all --help" ;;
             rests) words="--help" ;;

@@ -73,6 +73,28 @@ pub fn may_lose(number: u8) -> bool {
     matches!(number, 16 | 18 | 19 | 21)
 }
 
+/// What a notice says, in words; of signifiers each kind.
+pub fn whats<'a>(n: &Notice<'a>, text: &'a [u8]) -> Vec<String> {
+    let said = n.preserved(text);
+    match n.number {
+        17 => {
+            let mut whats: Vec<String> = Vec::new();
+            for c in String::from_utf8_lossy(said).chars() {
+                let what = match words::signifier(c) {
+                    Some(name) => format!("{name}, not imported"),
+                    None => format!("signifier `{}`, not imported", words::plain(c.to_string().as_bytes())),
+                };
+                if !whats.contains(&what) {
+                    whats.push(what);
+                }
+            }
+            whats
+        }
+        2 => vec![format!("{}, not `{}`", ruevault::notice_reason(2), words::shortened(said))],
+        number => vec![ruevault::notice_reason(number)],
+    }
+}
+
 /// The account of a sheet, with as many places of each group as are asked for.
 pub fn of(text: &[u8], sheet: &[u8], most: usize) -> Account {
     let mut account = Account::default();
@@ -112,24 +134,13 @@ impl Account {
         notices.retain(|n| !may_lose(n.number) || of_lost.binary_search(&(n.line.into(), n.column.into())).is_err());
     }
 
-    fn note(&mut self, text: &[u8], n: &Notice, most: usize) {
+    fn note<'a>(&mut self, text: &'a [u8], n: &Notice<'a>, most: usize) {
         let said = n.preserved(text);
         let spot = |said: &[u8]| Spot { line: n.line.into(), token: n.column, column: 0, said: said.to_vec() };
+        let what = whats(n, text);
         match n.number {
-            17 => {
-                let mut whats: Vec<String> = Vec::new();
-                for c in String::from_utf8_lossy(said).chars() {
-                    let what = match words::signifier(c) {
-                        Some(name) => format!("{name}, not imported"),
-                        None => format!("signifier `{}`, not imported", words::plain(c.to_string().as_bytes())),
-                    };
-                    if !whats.contains(&what) {
-                        whats.push(what);
-                    }
-                }
-                whats.into_iter().for_each(|what| self.count(Class::Ignored, 17, || what, most, || spot(&[])));
-            }
-            2 => self.count(Class::Ignored, 2, || format!("{}, not `{}`", ruevault::notice_reason(2), words::plain(said)), most, || spot(&[])),
+            17 => what.into_iter().for_each(|what| self.count(Class::Ignored, 17, || what, most, || spot(&[]))),
+            2 => what.into_iter().for_each(|what| self.count(Class::Ignored, 2, || what, most, || spot(&[]))),
             1 => self.count(Class::Harmless, 1, || ruevault::notice_reason(1), most, || spot(n.key.of(text))),
             number => self.count(class_of(number), number, || ruevault::notice_reason(number), most, || spot(said)),
         }

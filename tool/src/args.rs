@@ -6,6 +6,7 @@ pub enum Command {
     Read { files: Vec<OsString>, sheet: OsString },
     Show { files: Vec<OsString>, json: bool },
     Check { files: Vec<OsString>, json: bool, all: bool },
+    Proof { file: OsString, page: OsString },
     Rests { ticks: u32, divisions: u32, notes: u32 },
     Help(&'static str),
     Version,
@@ -17,7 +18,7 @@ pub struct Wrong {
     pub command: Option<&'static str>,
 }
 
-pub const COMMANDS: [&str; 5] = ["read", "show", "check", "rests", "help"];
+pub const COMMANDS: [&str; 6] = ["read", "show", "check", "proof", "rests", "help"];
 
 fn wrong<T>(command: Option<&'static str>, why: String) -> Result<T, Wrong> {
     Err(Wrong { why, command })
@@ -83,17 +84,19 @@ fn rests(words: &[OsString]) -> Result<Command, Wrong> {
 fn with_files(command: &'static str, words: Vec<OsString>) -> Result<Command, Wrong> {
     let (mut files, mut sheet, mut json, mut all) = (Vec::new(), None, false, false);
     let mut words = words.into_iter();
-    let no_sheet = || Wrong { why: "behind -o the name of a sheet is wanted".to_string(), command: Some(command) };
+    let writes = matches!(command, "read" | "proof");
+    let what = if command == "read" { "sheet" } else { "page" };
+    let no_sheet = || Wrong { why: format!("behind -o the name of a {what} is wanted"), command: Some(command) };
     while let Some(word) = words.next() {
         let bytes = word.as_encoded_bytes();
         match word.to_str() {
             Some("--") => {
                 files.extend(words.by_ref());
             }
-            Some("--json") if command != "read" => json = true,
+            Some("--json") if !writes => json = true,
             Some("--all") if command == "check" => all = true,
-            Some("-o" | "--output") if command == "read" && sheet.is_none() => sheet = Some(words.next().ok_or_else(no_sheet)?),
-            Some(w) if command == "read" && sheet.is_none() && w.starts_with("--output=") => sheet = Some(OsString::from(&w["--output=".len()..])),
+            Some("-o" | "--output") if writes && sheet.is_none() => sheet = Some(words.next().ok_or_else(no_sheet)?),
+            Some(w) if writes && sheet.is_none() && w.starts_with("--output=") => sheet = Some(OsString::from(&w["--output=".len()..])),
             _ if bytes.starts_with(b"-") && bytes != b"-" => return wrong(Some(command), format!("{command} has no option {}{}", quoted(&word), twice(&word, &sheet))),
             _ => files.push(word),
         }
@@ -106,7 +109,11 @@ fn with_files(command: &'static str, words: Vec<OsString>) -> Result<Command, Wr
     }
     match (command, sheet) {
         ("read", Some(sheet)) => Ok(Command::Read { files, sheet }),
-        ("read", None) => wrong(Some(command), "read wants -o and the name of the sheet, or -o - for standard output".to_string()),
+        ("read" | "proof", None) => wrong(Some(command), format!("{command} wants -o and the name of the {what}, or -o - for standard output")),
+        ("proof", Some(page)) => match <[OsString; 1]>::try_from(files) {
+            Ok([file]) => Ok(Command::Proof { file, page }),
+            Err(files) => wrong(Some(command), format!("proof takes one file, and {} is one more", quoted(&files[1]))),
+        },
         ("show", _) => Ok(Command::Show { files, json }),
         _ => Ok(Command::Check { files, json, all }),
     }

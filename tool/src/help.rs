@@ -3,12 +3,13 @@
 const ALL: &str = "usage: ruevault read FILE.. -o SHEET
        ruevault show FILE.. [--json]
        ruevault check FILE.. [--json] [--all]
+       ruevault proof FILE -o PAGE.html
        ruevault rests TICKS DIVISIONS [NOTES]
        ruevault help [COMMAND]
        ruevault --version
 
-read writes the sheet of a Humdrum **kern text, show prints a text or a sheet in words, check prints messages only, and rests the hidden rests of a
-hole. FILE is a text of at most 64 MiB, - is standard input, and behind -- every word is a FILE.
+read writes the sheet of a Humdrum **kern text, show prints a text or a sheet in words, check prints messages only, proof writes
+a page to look a text through, and rests prints the hidden rests of a hole. FILE is a text of at most 64 MiB, - is standard input, and behind -- every word is a FILE.
 Exit status: 0, 1 for a text or a hole that is refused, 2 for a wrong call or a file that can't be read or written.";
 
 const READ: &str = "usage: ruevault read FILE -o SHEET
@@ -32,6 +33,12 @@ each text. N is the refusal's or the notice's number, 0 for a lost token whose n
 lost for one reason ten are printed and the others counted; --all prints all.
 --json prints one object a file on standard output, each on a line of its own (docs/JSON.md). The exit status is 1 if any text is refused.";
 
+const PROOF: &str = "usage: ruevault proof FILE -o PAGE.html
+
+Writes a page that needs nothing else: title, parts, then bar by bar each part's voices as lanes over exact onsets, in whole notes. Under a bar in which spines
+split, join, exchange, are added or end stand those lines of the text, with an arrow from each branch's token to its lane. Tokens that gave no note, notices
+and bars that are shorter or longer than their meter are marked where they stand. With -o - the page goes to standard output.";
+
 const RESTS: &str = "usage: ruevault rests TICKS DIVISIONS [NOTES]
 
 Prints the hidden rests that fill a hole of TICKS, at DIVISIONS to the quarter, in a voice that has NOTES notes (0).";
@@ -45,6 +52,7 @@ pub fn of(command: &str) -> &'static str {
         "read" => READ,
         "show" => SHOW,
         "check" => CHECK,
+        "proof" => PROOF,
         "rests" => RESTS,
         "help" => HELP,
         _ => ALL,

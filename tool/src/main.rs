@@ -1,5 +1,5 @@
 //! `ruevault read FILE -o SHEET` writes the sheet of a text, `ruevault show FILE` prints it in words, `ruevault check FILE` prints messages only,
-//! `ruevault rests TICKS DIVISIONS` the rests of a hole.
+//! `ruevault proof FILE -o PAGE` writes a page to look it through, `ruevault rests TICKS DIVISIONS` prints the rests of a hole.
 mod account;
 mod args;
 mod files;
@@ -8,11 +8,13 @@ mod help;
 mod hints;
 mod json;
 mod message;
+mod proof;
 mod refused;
 mod rows;
 mod score;
 mod show;
 mod show_json;
+mod time;
 mod unread;
 mod words;
 
@@ -51,6 +53,7 @@ fn run(command: Command) -> Status {
         Command::Read { files, sheet } => read(&files, &sheet),
         Command::Show { files, json } => show(&files, json),
         Command::Check { files, json, all } => check(&files, json, all),
+        Command::Proof { file, page } => proof(&file, &page),
         Command::Rests { ticks, divisions, notes } => rests(ticks, divisions, notes),
         Command::Help(command) => printed(|out| writeln!(out, "{}", help::of(command))),
         Command::Version => printed(|out| writeln!(out, "ruevault {}", env!("CARGO_PKG_VERSION"))),
@@ -149,8 +152,7 @@ fn read(files: &[OsString], sheet: &OsStr) -> Status {
             return wrong_call(&Wrong { why: format!("two of the sheets would be `{}`", name_of(sheet)), command: Some("read") });
         }
         if let Some(same) = files.iter().find(|f| files::is_same(f, sheet)) {
-            say(&format!("ruevault: {}: the output is the input `{}`, and was left as it is\n", name_of(sheet), name_of(same)));
-            return Status::Failed;
+            return self::same(sheet, same);
         }
     }
     let mut sheets = sheets.iter();
@@ -185,6 +187,28 @@ fn written(file: &OsStr, sheet: &OsStr, done: &Sheet) -> Status {
         }
     }
     Status::Fine
+}
+
+fn proof(file: &OsStr, page: &OsStr) -> Status {
+    if files::is_same(file, page) {
+        return same(page, file);
+    }
+    let done = match read_text(file) {
+        Ok(done) => done,
+        Err(stop) => return stopped(file, &stop),
+    };
+    let mut html = Vec::new();
+    let text = done.text.as_deref().unwrap_or_default();
+    let drawn = proof::page(text, &done.sheet, &name_of(file), &mut html);
+    match drawn.and_then(|()| if page == "-" { files::write_standard(&html) } else { files::write(Path::new(page), &html) }) {
+        Ok(()) => Status::Fine,
+        Err(e) => file_error(page, &e),
+    }
+}
+
+fn same(output: &OsStr, input: &OsStr) -> Status {
+    say(&format!("ruevault: {}: the output is the input `{}`, and was left as it is\n", name_of(output), name_of(input)));
+    Status::Failed
 }
 
 fn show(files: &[OsString], json: bool) -> Status {

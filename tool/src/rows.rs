@@ -80,11 +80,11 @@ pub fn start_of(record: &[u8], column: usize) -> usize {
     if column == 0 { 0 } else { ends.nth(column - 1).unwrap_or(record.len()) }
 }
 
-pub fn is_path(token: &[u8]) -> bool {
+fn is_path(token: &[u8]) -> bool {
     matches!(token, b"*^" | b"*v" | b"*x" | b"*+" | b"*-")
 }
 
-fn has_paths(record: &[u8]) -> bool {
+pub fn has_paths(record: &[u8]) -> bool {
     record.split(|b| *b == b'\t').any(is_path)
 }
 

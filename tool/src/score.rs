@@ -1,5 +1,5 @@
 //! A sheet bar by bar, beside the text where there is one: what `show` prints, in words or as JSON.
-use crate::rows::{Column, Record as Line};
+use crate::rows::{self, Column, Record as Line};
 use crate::unread::{self, Beside, Place, Unread};
 use crate::{given, words};
 use ruevault::{Bar, End, Note, Notice, Part, Record, Span};
@@ -41,9 +41,25 @@ pub struct Lines<'a> {
     pub labels: Vec<&'a [u8]>,
     pub first: u64,
     pub last: u64,
-    /// Records with path tokens.
-    pub paths: Vec<Line<'a>>,
+    pub paths: Vec<Path<'a>>,
     pub unread: Vec<Unread<'a>>,
+}
+
+/// A record with path tokens.
+pub struct Path<'a> {
+    pub number: u64,
+    pub bytes: &'a [u8],
+    pub branches: Vec<Branch>,
+}
+
+/// A line that a `*^` or `*+` adds.
+#[derive(Clone, Copy)]
+pub struct Branch {
+    /// From 0.
+    pub token: usize,
+    /// Where it is under kern.
+    pub part: Option<u16>,
+    pub thread: u32,
 }
 
 impl<'a> Score<'a> {
@@ -84,7 +100,11 @@ impl<'a> Score<'a> {
     }
 
     pub fn voice_of(&self, u: &Unread) -> Option<u8> {
-        self.voices.get(u.thread as usize).copied().flatten()
+        self.voice_of_thread(u.thread)
+    }
+
+    pub fn voice_of_thread(&self, thread: u32) -> Option<u8> {
+        self.voices.get(thread as usize).copied().flatten()
     }
 
     /// Whether the text itself gives the meter and the key of a bar, where that is known.
@@ -175,18 +195,27 @@ impl<'a, 'p> Source<'a, 'p> {
                     open(&mut lines, label);
                 }
             }
+            let before = self.beside.row().iter().map(|c| c.line).max();
             let left = self.beside.pass(|_, _| noted = true, |u| lines.unread.push(u));
             // The record that ends all spines is no bar's.
             if left && !record.is_bar() {
                 lines.first = if lines.first == 0 { record.number } else { lines.first };
                 lines.last = record.number;
             }
-            if record.is_star() && left && record.bytes.split(|b| *b == b'\t').any(crate::rows::is_path) {
-                lines.paths.push(record);
+            if record.is_star() && left && rows::has_paths(record.bytes) {
+                lines.paths.push(path(record, self.beside.row(), before));
             }
         }
         lines
     }
+}
+
+/// The record with its branches: the lines behind it that were not before.
+fn path<'a>(record: Line<'a>, behind: &[Column], before: Option<u32>) -> Path<'a> {
+    let forks = record.bytes.split(|b| *b == b'\t').enumerate().filter(|(_, token)| matches!(*token, b"*^" | b"*+"));
+    let fresh = behind.iter().filter(|c| before.is_none_or(|before| c.line > before));
+    let branches = forks.zip(fresh).map(|((token, _), c)| Branch { token, part: c.part, thread: c.line }).collect();
+    Path { number: record.number, bytes: record.bytes, branches }
 }
 
 /// The token of a barline record that decides it: that of the first kern column, else the first.

@@ -52,7 +52,7 @@ fn show_parts(score: &Score, out: &mut impl Write) -> io::Result<()> {
 }
 
 /// `Bar 2 (=1, lines 19-24)`.
-fn heading(measure: &Measure) -> String {
+pub fn heading(measure: &Measure) -> String {
     let lines = &measure.lines;
     let labels = lines.labels.iter().map(|l| words::plain(l)).collect::<Vec<_>>().join(" ");
     let span = match (lines.first, lines.last) {
@@ -137,7 +137,7 @@ fn in_its_place(n: &Note, with_line: bool) -> String {
     if with_line { format!("[{}] {n}", n.line) } else { n.to_string() }
 }
 
-fn not_read(u: &Unread) -> String {
+pub fn not_read(u: &Unread) -> String {
     format!("NOT READ: line {}, token {}, `{}`", u.line, u.column, words::shortened(u.token))
 }
 

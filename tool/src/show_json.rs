@@ -1,8 +1,7 @@
 //! A sheet as JSON (docs/JSON.md): the numbers are the sheet's own, parts and voices from 0.
 use crate::account;
 use crate::json::Json;
-use crate::rows::Record as Line;
-use crate::score::{Lines, Measure, Score};
+use crate::score::{Lines, Measure, Path, Score};
 use crate::unread::{Unread, position_of_column};
 use crate::rows;
 use ruevault::{Bar, Note, Notice, Part, Pitch, Span};
@@ -149,7 +148,7 @@ fn unread(score: &Score, all: &[Unread], out: &mut Json) {
     });
 }
 
-fn paths(all: &[Line], out: &mut Json) {
+fn paths(all: &[Path], out: &mut Json) {
     out.array(|a| {
         for path in all {
             a.item(|v| {

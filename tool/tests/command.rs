@@ -17,6 +17,9 @@ fn wrong_calls_name_the_wrong_word_first() {
         (&["read", "a", "-o"], "behind -o the name of a sheet is wanted"),
         (&["read", "a", "-o", "b", "-o", "c"], "read has no option `-o` a second time"),
         (&["read", "a", "--json", "-o", "b"], "read has no option `--json`"),
+        (&["proof", "a"], "proof wants -o and the name of the page, or -o - for standard output"),
+        (&["proof", "a", "b", "-o", "c"], "proof takes one file, and `b` is one more"),
+        (&["proof", "a", "-o"], "behind -o the name of a page is wanted"),
         (&["check", "-", "-"], "standard input (-) can be read only once"),
         (&["check", "--", "-x", "-", "-"], "standard input (-) can be read only once"),
         (&["rests"], "rests takes two or three numbers, and there are 0"),
@@ -38,7 +41,7 @@ fn wrong_calls_name_the_wrong_word_first() {
 
 #[test]
 fn help_and_version() {
-    for command in ["read", "show", "check", "rests", "help"] {
+    for command in ["read", "show", "check", "proof", "rests", "help"] {
         let help = run(&["help", command], b"");
         assert_eq!((help.status, help.err.as_str()), (0, ""));
         assert!(help.said.starts_with(&format!("usage: ruevault {command}")), "{}", help.said);

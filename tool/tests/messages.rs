@@ -130,12 +130,12 @@ fn notices_are_grouped_and_counted() {
         lines,
         [
             ":8:1: warning[19]: lost: token 1, `4096c`: no note: reciprocal duration is outside the supported range",
-            ":12:4: warning[19]: lost: token 2, `512ff`: no note: reciprocal duration is outside the supported range",
+            ":12:3: warning[19]: lost: token 2, `512ff`: no note: reciprocal duration is outside the supported range",
             ":9:1: warning[18]: lost: token 1, `x`: no note: data token has neither a pitch nor a rest",
             ":7:1: warning[17]: ignored: stems, not imported: 2, first 7:1",
             ":9:1: warning[17]: ignored: signifier `x`, not imported",
             ":2:1: warning[1]: harmless: Humdrum reference record is not represented in the score model, `ENC`",
-            ": 2 parts, 2 bars, 10 notes; lost: 3, ignored: 3, harmless: 1",
+            ": 2 parts, 2 bars, 9 notes; lost: 3, ignored: 3, harmless: 1",
         ]
     );
     let piano = run(&["check", "examples/piano.krn"], b"").err;
