@@ -1,6 +1,7 @@
 //! The words of a call.
 use crate::words;
 use std::ffi::{OsStr, OsString};
+use std::path::Path;
 
 pub enum Command {
     Read { files: Vec<OsString>, sheet: OsString },
@@ -40,7 +41,8 @@ pub fn command(words: Vec<OsString>) -> Result<Command, Wrong> {
     }
     let Some(command) = COMMANDS.into_iter().find(|c| verb == *c) else {
         let what = if verb.as_encoded_bytes().starts_with(b"-") { "option" } else { "command" };
-        return wrong(None, format!("there is no {what} {}", quoted(&verb)));
+        let file = if Path::new(&verb).exists() { format!("; `ruevault show {}` shows the file", words::plain(verb.as_encoded_bytes())) } else { String::new() };
+        return wrong(None, format!("there is no {what} {}{file}", quoted(&verb)));
     };
     let words: Vec<OsString> = words.collect();
     if words.iter().take_while(|w| *w != "--").any(|w| w == "-h" || w == "--help") {

@@ -8,6 +8,7 @@ fn wrong_calls_name_the_wrong_word_first() {
     for (words, first) in [
         (&[][..], "a command is wanted"),
         (&["play", "a"], "there is no command `play`"),
+        (&["examples/song.krn"], "there is no command `examples/song.krn`; `ruevault show examples/song.krn` shows the file"),
         (&["--jso"], "there is no option `--jso`"),
         (&["show"], "show wants the name of a file, or - for standard input"),
         (&["show", "-x"], "show has no option `-x`"),
