@@ -18,11 +18,11 @@ mod time;
 mod unread;
 mod words;
 
-use account::{Account, Class};
+use account::Class;
 use args::{Command, Wrong};
 use json::Json;
 use message::{Message, counted, name_of};
-use ruevault::{MAX_TEXT, Refusal};
+use ruevault::Refusal;
 use std::collections::HashSet;
 use std::ffi::{OsStr, OsString};
 use std::io::{self, BufWriter, Write};
@@ -277,7 +277,7 @@ fn check(files: &[OsString], json: bool, all: bool) -> Status {
 
 /// What there is to say of a text that is accepted.
 fn accepted(file: &OsStr, done: &Sheet, json: bool, most: usize) -> Status {
-    let account: Account = account::of(done.text.as_deref().unwrap_or_default(), &done.sheet, most);
+    let account = account::of(done.text.as_deref().unwrap_or_default(), &done.sheet, most);
     let name = name_of(file);
     if json {
         return printed(|out| {
@@ -309,5 +309,3 @@ fn rests(ticks: u32, divisions: u32, notes: u32) -> Status {
         }
     }
 }
-
-const _: () = assert!(MAX_TEXT == 67_108_864);
