@@ -12,7 +12,7 @@ use Rattle.lines.specs.declared.Kind.TheVariants.{Empty, Reference, Comment, Sta
 use Rattle.paths.specs.Demand.{At}
 use Rattle.paths.specs.Record.{Rec}
 use Rattle.paths.specs.declared.Spine.{Spine}
-use Rattle.paths.specs.Trace.{header_part, part, MayEnd}
+use Rattle.paths.specs.Trace.{Ending, end_part, part, MayEnd}
 use Rattle.paths.specs.TracedVoice.{voice}
 use Rattle.paths.proofs.Demand.{demand}
 use Rattle.sheet.specs.Record.{Record}
@@ -68,8 +68,8 @@ row_at h recs (t ∷ ts) n zero (here, rows) l = let z : n + 0 ≡ n = omega ari
 row_at h recs (t ∷ ts) n (suc m) (here, rows) l = let z : n + suc m ≡ suc n + m = omega arith in rw z (row_at h recs ts (suc n) m rows (omega arith))
 
 module _ (text : List ℕ) (parts notes : ℕ) (rs : List Record) (is : read_text text ≡ accepted parts notes rs) where
-  pub one_origin : (n : ℕ) → n < length (taken_of text) → (j : ℕ) (e : Option ℕ) → MayEnd (paths_of text) n j e
-      → bind e (header_part (header_of text)) ≡ part (header_of text) (paths_of text) n j
+  pub one_origin : (n : ℕ) → n < length (taken_of text) → (j : ℕ) (e : Option Ending) → MayEnd (paths_of text) n j e
+      → bind e (end_part (header_of text) (paths_of text)) ≡ part (header_of text) (paths_of text) n j
   one_origin n l j e m =
       let z : 0 + n ≡ n = omega arith in
       let r : (row : List Spine) × At (header_of text) (paths_of text) n row =
@@ -77,9 +77,9 @@ module _ (text : List ℕ) (parts notes : ℕ) (rs : List Record) (is : read_tex
       (demand (header_of text) (paths_of text)).one_origin n r.0 r.1 j e m
 
   -- where each column's trace may end
-  module _ (ends : ℕ → ℕ → Option ℕ) (may_end : (n j : ℕ) → MayEnd (paths_of text) n j (ends n j)) where
+  module _ (ends : ℕ → ℕ → Option Ending) (may_end : (n j : ℕ) → MayEnd (paths_of text) n j (ends n j)) where
     abbrev by_ends : ℕ → ℕ → Option ℕ
-    by_ends n j = bind (ends n j) (header_part (header_of text))
+    by_ends n j = bind (ends n j) (end_part (header_of text) (paths_of text))
 
     same_parts : (ts : List Taken) (n : ℕ) → OnRows (header_of text) (paths_of text) n ts
         → SameParts by_ends (part (header_of text) (paths_of text)) (voice (header_of text) (paths_of text)) n ts

@@ -5,13 +5,12 @@ use native.Mathlib.Omega.{arith}
 use mathlib.Core.Bool.{Bool, true, false, cond}
 use mathlib.Core.List.{List, [], ◌∷◌, map}
 use mathlib.Core.Logic.{◌≢◌}
-use mathlib.Core.Option.{Option, none, some, bind}
+use mathlib.Core.Option.{Option, some}
 use mathlib.Core.Path.{◌≡◌, refl, sym, ap, subst, ◌∙◌}
 use lib.ListN.{length, get_or}
 use borrow.Author.Tests.{eq-eqb}
 use Rattle.slices.specs.Ascii.{ascii}
 use Rattle.slices.specs.Compare.{begins_with, same_bytes}
-use Rattle.slices.proofs.TestLaws.{clash}
 use Rattle.lines.specs.Lines.{kind_of}
 use Rattle.lines.specs.Tokens.{tokens_of, is_star}
 use Rattle.lines.specs.declared.Kind.{Kind}
@@ -23,11 +22,11 @@ use Rattle.paths.specs.declared.Spine.TheVariants.{Line, Branch, Outside}
 use Rattle.paths.specs.Demand.{At}
 use Rattle.paths.specs.Text.{reading, read_record, take_record, read_to}
 use Rattle.paths.specs.Token.{path_token}
-use Rattle.paths.specs.Trace.{trace, kerns_before, header_part, part, columns, width_in}
+use Rattle.paths.specs.Trace.{kerns_before, made_in, parts_to, part, columns, width_in}
 use Rattle.paths.specs.TracedVoice.{voice}
 use Rattle.paths.specs.Voices.{Outcome, next, step_row}
 use Rattle.paths.proofs.Demand.{demand}
-use Rattle.paths.proofs.TextLaws.{one_more}
+use Rattle.paths.proofs.TextLaws.{one_more, part_below}
 use Rattle.paths.proofs.TracedVoices.{traced_voice}
 use Rattle.repair.specs.Record.{record_of}
 use Rattle.repair.specs.Repair.{repaired, repaired_of}
@@ -127,26 +126,25 @@ module _ (h : List Bool) (recs : ℕ → Rec) where
 
 -- ---- the columns
 
-header_bound : (h : List Bool) (q k : ℕ) → get_or h k false ≡ true → kerns_before h k < length (fresh_parts q h)
+fresh_length : (h : List Bool) (q : ℕ) → length (fresh_parts q h) ≡ kerns_before h (length h)
 unfolding kerns_before fresh_parts
-header_bound [] q k e = clash cc
-header_bound (true ∷ h) q zero e = omega arith
-header_bound (true ∷ h) q (suc k) e = omega (arith, header_bound h (suc q) k e)
-header_bound (false ∷ h) q zero e = clash cc
-header_bound (false ∷ h) q (suc k) e = header_bound h q k e
+fresh_length [] q = refl
+fresh_length (true ∷ h) q = ap suc (fresh_length h (suc q))
+fresh_length (false ∷ h) q = fresh_length h q
+
+-- a record makes no part, so there are as many as the header has
+made_none : (x : Rec) → made_in x ≡ 0
+made_none (star ts) = refl
+made_none (plain k) = refl
+
+parts_fresh : (h : List Bool) (recs : ℕ → Rec) (n : ℕ) → parts_to h recs n ≡ length (fresh_parts 0 h)
+unfolding parts_to
+parts_fresh h recs zero = sym (fresh_length h 0)
+parts_fresh h recs (suc n) = omega (arith, parts_fresh h recs n, made_none (recs n))
 
 -- a part is one of the header's
 pub part_bound : (h : List Bool) (recs : ℕ → Rec) (n j p : ℕ) → part h recs n j ≡ some p → p < length (fresh_parts 0 h)
-unfolding part bind header_part
-part_bound h recs n j p = go (trace recs n j)
-  where
-    kern : (k : ℕ) (b : Bool) → get_or h k false ≡ b → cond b (some (kerns_before h k)) none ≡ some p → p < length (fresh_parts 0 h)
-    kern k true e f = let z : kerns_before h k ≡ p = cc in omega (arith, header_bound h 0 k e)
-    kern k false e f = clash cc
-
-    go : (o : Option ℕ) → bind o (header_part h) ≡ some p → p < length (fresh_parts 0 h)
-    go none e = clash cc
-    go (some k) e = kern k (get_or h k false) refl e
+part_bound h recs n j p e = omega (arith, part_below h recs n j p e, parts_fresh h recs n)
 
 module _ (part_at_text : ℕ → Option ℕ) (voice_at_text : ℕ → ℕ) (m : ℕ) (bound : (j p : ℕ) → part_at_text j ≡ some p → p < m) where
   column_is : (i : ℕ) (s : Spine) → part_of s ≡ part_at_text i → ((p : ℕ) → s ≢ Branch p)

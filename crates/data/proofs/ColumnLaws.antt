@@ -9,7 +9,7 @@ use borrow.Author.Tests.{ltb-true}
 use lib.ListN.{length, take, drop, get_or, length-take}
 use Rattle.slices.proofs.TestLaws.{clash}
 use Rattle.lines.specs.Tokens.{tokens_of, is_null}
-use Rattle.duration.specs.Duration.{duration_of}
+use Rattle.duration.specs.Ratio.{spelled_value}
 use Rattle.duration.specs.declared.Value.{Value}
 use Rattle.std.specs.Prelude.{Option}
 use Rattle.paths.specs.declared.Spine.{Spine}
@@ -76,7 +76,7 @@ module _ (k offset : ℕ) (text row : List ℕ) (c : Column) where
 
   module _ {p v : ℕ} (is : spine_of (get_or row c.index 0) ≡ Line p v) where
     pub column_line : (st : State) (out : List ℕ) (at : ℕ) {value : Option Value} {s : Spot} {l : Landed}
-        → value ≡ duration_of (notes.inferred_for (take (length row) (tokens_of text)) (map is_kern_spine (row_of row)) c.index (token_in offset text c).bytes)
+        → value ≡ spelled_value (notes.inferred_for (take (length row) (tokens_of text)) (map is_kern_spine (row_of row)) c.index (token_in offset text c).bytes)
         → s ≡ spot_of k offset p v c
         → l ≡ landed (token_step (token_in offset text c).bytes value s st) out at
         → l ≡ landed (column_step k offset text row c st) out at

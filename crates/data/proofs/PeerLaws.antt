@@ -9,7 +9,7 @@ use lib.Dec.{eqb, ltb, leb}
 use lib.ListN.{length, take, get_or}
 use borrow.Author.Tests.{leb-true, leb-false, ltb-true, ltb-false}
 use Rattle.lines.specs.Tokens.{tokens_of}
-use Rattle.duration.specs.Duration.{duration_of}
+use Rattle.duration.specs.Ratio.{spelled_value}
 use Rattle.duration.specs.declared.Value.{Value}
 use Rattle.std.specs.Prelude.{Option}
 use Rattle.paths.specs.declared.Spine.TheVariants.{Line}
@@ -64,18 +64,18 @@ kern_at (c ∷ cs) (suc i) h = kern_at cs i (le_of_suc-le-suc h)
 -- what a bare column of a record gets is what its neighbours offer it
 module _ (offset : ℕ) (line row : List ℕ) (c : Column) (e : Entered line row c) {p v : ℕ} (is : spine_of (get_or row c.index 0) ≡ Line p v) where
   gets : is_bare (token_in offset line c).bytes ≡ true
-      → agreed_in line row ≡ duration_of (peer_reciprocal (take (length row) (tokens_of line)) (map is_kern_spine (row_of row)) c.index)
+      → agreed_in line row ≡ spelled_value (peer_reciprocal (take (length row) (tokens_of line)) (map is_kern_spine (row_of row)) c.index)
   gets b =
       let kern : leb 8 (get_or row c.index 0) ≡ true = sym (kern_cell (get_or row c.index 0)) ∙ ap is_kern_spine is in
-      ap duration_of (bare_column (tokens_of line) (kern_cells row) c.index (kern_at row c.index e.inside ∙ kern) (ap is_bare e.here ∙ b)
+      ap spelled_value (bare_column (tokens_of line) (kern_cells row) c.index (kern_at row c.index e.inside ∙ kern) (ap is_bare e.here ∙ b)
       ∙ ap uniform (sym (peers_few 0 c.index (tokens_of line) row) ∙ ap (peers_from 0 c.index (take (length row) (tokens_of line))) (sym (kern_row row))))
 
   pub infers : {value : Option Value} → value ≡ inferred_by (is_bare (token_in offset line c).bytes) line row
-      → value ≡ duration_of (inferred_for (take (length row) (tokens_of line)) (map is_kern_spine (row_of row)) c.index (token_in offset line c).bytes)
+      → value ≡ spelled_value (inferred_for (take (length row) (tokens_of line)) (map is_kern_spine (row_of row)) c.index (token_in offset line c).bytes)
   unfolding inferred_for
   infers {value} q = go (is_bare (token_in offset line c).bytes) refl q
     where
       go : (b : Bool) → is_bare (token_in offset line c).bytes ≡ b → value ≡ inferred_by b line row
-          → value ≡ duration_of (cond b (peer_reciprocal (take (length row) (tokens_of line)) (map is_kern_spine (row_of row)) c.index) [])
+          → value ≡ spelled_value (cond b (peer_reciprocal (take (length row) (tokens_of line)) (map is_kern_spine (row_of row)) c.index) [])
       go true b r = r ∙ gets b
       go false b r = r ∙ sym no_value

@@ -1,7 +1,7 @@
 -- Demand 3: "a player holding only the sheet plays what the text says".
 use Rattle.std.specs.Prelude.{◌≡◌, ℕ, List, length}
 use Rattle.std.proofs.Math.Option.{Option, bind}
-use Rattle.paths.specs.Trace.{header_part, MayEnd}
+use Rattle.paths.specs.Trace.{Ending, end_part, MayEnd}
 use Rattle.sheet.specs.Player.{head_of, sheet_notes}
 use Rattle.account.specs.Account.{account_by, account}
 use Rattle.account.specs.Agree.{Agree, Apart, NotesShare}
@@ -17,6 +17,6 @@ pub record Played (text buffer : List ℕ) : Type 0 where
   -- "Notes of one record never share part and voice."
   pub distinct : Apart NotesShare (sheet_notes buffer)
   -- "an accepted trace ends in the same part, or outside kern, whichever line of a join it follows": the NOTEs are those of every such trace, too.
-  -- `ends n j` is a column of the header, or none, where the trace may end of column j before the n-th later record, from 0.
-  pub any_line : (ends : ℕ → ℕ → Option ℕ) → ((n j : ℕ) → MayEnd (paths_of text) n j (ends n j)) →
-      Agree (sheet_notes buffer) (account_by (λ n j. bind (ends n j) (header_part (header_of text))) text)
+  -- `ends n j` is the row and column, or none, where the trace may end of column j before the n-th later record, from 0.
+  pub any_line : (ends : ℕ → ℕ → Option Ending) → ((n j : ℕ) → MayEnd (paths_of text) n j (ends n j)) →
+      Agree (sheet_notes buffer) (account_by (λ n j. bind (ends n j) (end_part (header_of text) (paths_of text))) text)

@@ -12,7 +12,7 @@ use Rattle.notation.specs.Beam.{beam_number}
 use Rattle.notation.specs.declared.beam.Mark.{Mark}
 use Rattle.notation.specs.declared.beam.Mark.TheVariants.{None, Begin, Continue, End}
 use Rattle.items.specs.Items.{items}
-use Rattle.token.specs.Token.{bad_length, rest_of, pitches_of, marks, signifiers_of}
+use Rattle.token.specs.Token.{is_bad, rest_of, pitches_of, marks, signifiers_of}
 use Rattle.token.specs.Outcome.{Outcome, notice_number, read_token, reported, note_pitches}
 use Rattle.token.specs.declared.pitches.Tone.{Tone}
 use Rattle.token.specs.declared.outcome.Note.{Note}
@@ -164,7 +164,7 @@ fine_token : {m : ℕ} (all : List (List ℕ)) (kern : List Bool) (p v k i : ℕ
     → m < 134217728 → TokenFits t → Good m st → FineStep m (read_token_at all kern p v k i t st)
 unfolding read_token_at
 fine_token {m} all kern p v k i t st hp hv hk hi w f g =
-    let r = reported_fits (bad_length false false (items t.bytes)) (signifiers_of (items t.bytes)) (length t.bytes)
+    let r = reported_fits (is_bad (items t.bytes)) (signifiers_of (items t.bytes)) (length t.bytes)
     (omega (arith, signifiers_few false (items t.bytes), items_few t.bytes)) (signifiers_fit false (items t.bytes) (items_fit t.bytes f.bytes)) in
     let peers : List ℕ = inferred_for all kern i t.bytes in
     either (FineStep m) (is_null t.bytes) (goes (quiet st))

@@ -6,15 +6,15 @@ use Prim.Native.Nat.{ℕ}
 use native.Mathlib.Omega.{arith}
 use lib.Dec.{eqb}
 use Rattle.sheet.specs.Fits.{All, U8}
-use Rattle.duration.specs.Duration.{duration_of}
+use Rattle.duration.specs.Ratio.{spelled_value}
 use Rattle.duration.specs.declared.Value.{Value}
 use Rattle.duration.specs.declared.Value.TheVariants.{Plain, Tuplet}
 use Rattle.items.specs.Items.{items}
 use Rattle.items.specs.declared.Item.{Item}
-use Rattle.items.specs.declared.Item.TheVariants.{Digits, Letters, Blank, Mark}
+use Rattle.items.specs.declared.Item.TheVariants.{Digits, Ratio, Letters, Blank, Mark}
 use Rattle.token.specs.Token.{is_blank, given_by, up_to_blank, first_sub, given_in, dots_of}
 use Rattle.token.specs.Scan.{scan_items, scan_of}
-use Rattle.token.specs.Outcome.{Outcome, notice_number, noted_as, note_of, by_value, noted, from_peers, without_digits, by_given, measured, outcome_of, read_token}
+use Rattle.token.specs.Outcome.{Outcome, notice_number, note_of, by_value, noted, from_peers, without_digits, by_given, measured, outcome_of, read_token}
 use Rattle.token.specs.declared.scan.Scan.{Scan}
 use Rattle.token.specs.declared.scan.Given.{Given}
 use Rattle.token.specs.declared.scan.Given.TheVariants.{Nothing, NoValue, Length}
@@ -79,6 +79,7 @@ given_in_lem : (is : List Item) → All ItemFits is → GivenFits (given_in is)
 unfolding given_in
 given_in_lem [] h = tt
 given_in_lem (Digits v ∷ is) h = given_by_lem v h.0
+given_in_lem (Ratio v ∷ is) h = given_by_lem v h.0
 given_in_lem (Letters c n ∷ is) h = given_in_lem is h.1
 given_in_lem (Blank ∷ is) h = given_in_lem is h.1
 given_in_lem (Mark b ∷ is) h = given_in_lem is h.1
@@ -123,5 +124,5 @@ module _ (s : Scan) (few : U8 s.dots) where
 pub token_fits : (token peers : List ℕ) → All U8 token → OutcomeFits (read_token token peers)
 unfolding scan_items
 token_fits token peers h =
-    outcome_fits (scan_of token) (few_dots (items token)) (duration_of peers)
+    outcome_fits (scan_of token) (few_dots (items token)) (spelled_value peers)
     (given_in_lem (first_sub (items token)) (first_fits (items token) (items_fit token h))) (value_fits peers)

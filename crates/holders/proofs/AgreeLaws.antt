@@ -12,24 +12,25 @@ use borrow.Author.Tests.{lt-ltb, eqb-true, eqb-false}
 use Rattle.slices.proofs.TestLaws.{clash}
 use Rattle.paths.specs.declared.PathToken.{PathToken}
 use Rattle.paths.specs.Demand.{At}
-use Rattle.paths.specs.Record.{Rec, star}
+use Rattle.paths.specs.Record.{Rec, star, plain}
 use Rattle.paths.specs.Row.{branch_from, part_of, spine_at, part_at}
 use Rattle.paths.specs.declared.Spine.{Spine}
 use Rattle.paths.specs.declared.Spine.TheVariants.{Line, Branch, Outside}
-use Rattle.paths.specs.Text.{read_to}
 use Rattle.paths.specs.Token.{is_join}
-use Rattle.paths.specs.Trace.{Origin, column_of, origin, origin_in, width, count, is_part, kerns_before, header_part, trace, part, lines}
+use Rattle.paths.specs.Trace.{Origin, column_of, origin, origin_in, width, count, is_part, kerns_before, Ending, opens, parts_to, opened_part, part_from, part_at_end, end_part, trace, part, lines}
 use Rattle.paths.specs.Walk.{alone}
-use Rattle.paths.proofs.Claims.{columns_are, lines_are, sound_voiced}
+use Rattle.paths.proofs.Claims.{origin_is, columns_are, lines_are, sound_voiced}
 use Rattle.paths.proofs.Columns.{count_ext}
 use Rattle.paths.proofs.Counts.{bit, same, same_yes, same_no, same_le, total, at, of_line, of_branch, of_part, high, four_total, total_four, part_total}
 use Rattle.paths.proofs.Origins.{origins}
-use Rattle.paths.proofs.TextLaws.{Held, row_held, part_suc}
+use Rattle.paths.proofs.TextLaws.{Held, row_held, part_on}
 use Rattle.paths.proofs.TraceLaws.{origins_length, origins_at}
 use Rattle.paths.proofs.VoiceLaws.{Sound}
+use Rattle.paths.specs.TracedVoice.{voice}
+use Rattle.paths.proofs.TracedVoices.{traced_voice}
 use Rattle.holders.specs.Voice.{free_voice}
-use Rattle.holders.specs.Holders.{those_from, is_from, is_branch_of, parent_of, from_one, row_in, voice_of, with_branches, carries_on, line_columns, branch_columns, holder, holders, times, Five}
-use Rattle.holders.specs.Walk.{put, carries, is_split, is_of, entry, lines_from, branches_from, walked, kern_column}
+use Rattle.holders.specs.Holders.{those_from, is_from, is_branch_of, parent_of, from_one, with_branches, carries_on, line_columns, branch_columns, holder, holders, times, Five}
+use Rattle.holders.specs.Walk.{voice_of, put, carries, is_split, is_of, entry, lines_from, branches_from, walked, kern_column}
 use Rattle.holders.specs.declared.list.Holder.{Holder}
 use Rattle.holders.proofs.CarryLaws.{carried, forked, carry_total, carried_less, carries_at, carries_is}
 use Rattle.holders.proofs.FiveLaws.{Good, good_few, good_more, free_is, five}
@@ -225,16 +226,24 @@ kern_found (false ∷ h) (suc k) zero i e z = omega (arith, kern_found h k zero 
 kern_found (false ∷ h) (suc k) (suc q) i e z = omega (arith, kern_found h k (suc q) (suc i) e z)
 
 header_is : (h : List Bool) (recs : ℕ → Rec) (n q j : ℕ) → is_part q (part h recs n j) ≡ true → from_one (trace recs n j) ≡ kern_column 0 q h
-unfolding part bind header_part
+unfolding part bind part_from part_at_end
 header_is h recs n q j = go (trace recs n j)
   where
-    kern : (k : ℕ) (b : Bool) → get_or h k false ≡ b → is_part q (cond b (some (kerns_before h k)) none) ≡ true → k + 1 ≡ kern_column 0 q h
-    kern k true e o = let f : kern_column 0 q h ≡ 0 + k + 1 = kern_found h k q 0 e (sym (eqb-true q (kerns_before h k) o)) in omega arith
+    kern : (k : ℕ) (b : Bool) → get_or h k false ≡ b → is_part q (cond b (some (0 + kerns_before h k)) none) ≡ true → k + 1 ≡ kern_column 0 q h
+    kern k true e o = let f : q ≡ 0 + kerns_before h k = eqb-true q (0 + kerns_before h k) o in omega (arith, kern_found h k q 0 e (omega arith))
     kern k false e o = clash cc
 
-    go : (t : Option ℕ) → is_part q (bind t (header_part h)) ≡ true → from_one t ≡ kern_column 0 q h
+    opened : (p : ℕ) (x : Rec) (k : ℕ) → is_part q (opened_part p x k) ≡ true → k + 1 ≡ kern_column 0 q h
+    opened p (star ts) k o = clash cc
+    opened p (plain m) k o = clash cc
+
+    ended : (m k : ℕ) → is_part q (part_at_end h recs m k) ≡ true → k + 1 ≡ kern_column 0 q h
+    ended zero k o = kern k (get_or h k false) refl o
+    ended (suc m) k o = opened (parts_to h recs m) (recs m) k o
+
+    go : (t : Option Ending) → is_part q (bind t (end_part h recs)) ≡ true → from_one t ≡ kern_column 0 q h
     go none o = clash cc
-    go (some k) o = kern k (get_or h k false) refl o
+    go (some e) o = ended e.row e.column o
 
 -- ---- record n
 module _ (h : List Bool) (recs : ℕ → Rec) (n q : ℕ) (row : List Spine) (ts : List PathToken) (there : At h recs n row) (is : recs n ≡ star ts) (even : length ts ≡ length row) where
@@ -256,25 +265,33 @@ module _ (h : List Bool) (recs : ℕ → Rec) (n q : ℕ) (row : List Spine) (ts
   holder_is : (j v : ℕ) → is_of q (spine_at row j) ≡ true → holder h recs n q j v ≡ entry q column (j + 1) v
   holder_is j v o = ap (λ (c : ℕ). record { column = j + 1; voice = v; header = c }) (header_is h recs n q j (is_of_lem j ∙ o))
 
-  origin_is : (j : ℕ) → origin_in (recs n) j ≡ origin ts j
-  unfolding origin_in
-  origin_is j = ap (λ (r : Rec). origin_in r j) is
-
   carries_on_lem : (i : ℕ) → i < length row → carries_on h recs n q i ≡ carries_at false ts i
   unfolding carries_on
   carries_on_lem i l =
       ap (ltb 0)
       (ap (count (λ j. is_from i (origin_in (recs n) j))) (columns_are h recs n row there ts is even)
-      ∙ count_ext (λ j. is_from i (origin_in (recs n) j)) (λ j. is_from i (origin ts j)) (λ j. ap (is_from i) (origin_is j)) (width ts))
+      ∙ count_ext (λ j. is_from i (origin_in (recs n) j)) (λ j. is_from i (origin ts j)) (λ j. ap (is_from i) (origin_is h recs n row there ts is even j)) (width ts))
       ∙ carries_is ts i (omega arith)
 
-  lines_found : map (λ i. holder h recs n q i (voice_of (spine_at (row_in (read_to h recs n)) i))) (line_columns h recs n q) ≡ line_list q column 0 false ts row
+  -- the voice of a line of the part is the one that the text says
+  voice_is : (j : ℕ) → is_of q (spine_at row j) ≡ true → voice h recs n j ≡ voice_of (spine_at row j)
+  voice_is j o = go (spine_at row j) refl o
+    where
+      go : (s : Spine) → spine_at row j ≡ s → is_of q s ≡ true → voice h recs n j ≡ voice_of s
+      go (Line p v) e o = traced_voice h recs n row there j p v e
+      go (Branch p) e o = clash cc
+      go Outside e o = clash cc
+
+  line_is : (j : ℕ) → is_of q (spine_at row j) ≡ true → holder h recs n q j (voice h recs n j) ≡ entry q column (j + 1) (voice_of (spine_at row j))
+  line_is j o = ap (λ (v : ℕ). holder h recs n q j v) (voice_is j o) ∙ holder_is j (voice_of (spine_at row j)) o
+
+  lines_found : map (λ i. holder h recs n q i (voice h recs n i)) (line_columns h recs n q) ≡ line_list q column 0 false ts row
   unfolding line_columns
   lines_found =
-      rw (there, ← held.size)
-      (those_lines q column (λ i. is_part q (part h recs n i) && carries_on h recs n q i) (λ i. holder h recs n q i (voice_of (spine_at row i))) 0 false ts row even
+      rw (← held.size)
+      (those_lines q column (λ i. is_part q (part h recs n i) && carries_on h recs n q i) (λ i. holder h recs n q i (voice h recs n i)) 0 false ts row even
       (λ e l. let z : 0 + e ≡ e = omega arith in rw z (ap₂ (λ (a b : Bool). a && b) (is_of_lem e) (carries_on_lem e l)))
-      (λ e o. let z : 0 + e ≡ e = omega arith in rw z (holder_is e (voice_of (spine_at row e)) o)))
+      (λ e o. let z : 0 + e ≡ e = omega arith in rw z (line_is e o)))
 
   branches_found : branch_columns h recs n q ≡ forks q 0 ts row
   unfolding branch_columns
@@ -282,9 +299,9 @@ module _ (h : List Bool) (recs : ℕ → Rec) (n q : ℕ) (row : List Spine) (ts
       rw (columns_are h recs n row there ts is even, ← origins_length ts)
       (those_gathered q (part h recs n) (λ j. is_branch_of (origin_in (recs n) j) && is_part q (part h recs (suc n) j)) (λ j. parent_of (origin_in (recs n) j)) 0 (origins alone 0 ts)
       (λ e. let z : 0 + e ≡ e = omega arith in
-      rw z (ap (λ (p : Option ℕ). is_branch_of (origin_in (recs n) e) && is_part q p) (part_suc h recs n e)
-      ∙ ap (λ (o : Origin). is_branch_of o && is_part q (bind (column_of o) (part h recs n))) (origin_is e ∙ sym (origins_at ts e))))
-      (λ e. let z : 0 + e ≡ e = omega arith in rw z (ap parent_of (origin_is e ∙ sym (origins_at ts e))))
+      rw z (ap (λ (p : Option ℕ). is_branch_of (origin_in (recs n) e) && is_part q p) (part_on h recs n e (ap (λ (r : Rec). opens r e) is))
+      ∙ ap (λ (o : Origin). is_branch_of o && is_part q (bind (column_of o) (part h recs n))) (origin_is h recs n row there ts is even e ∙ sym (origins_at ts e))))
+      (λ e. let z : 0 + e ≡ e = omega arith in rw z (ap parent_of (origin_is h recs n row there ts is even e ∙ sym (origins_at ts e))))
       ∙ gathered_forks q (part h recs n) alone 0 ts row even (λ e. let z : 0 + e ≡ e = omega arith in rw z (is_of_lem e)) (λ e. clash cc))
 
   -- the passes give the list of the trace

@@ -21,7 +21,6 @@ use Rattle.spines.specs.declared.active.Line.{Line as ActiveLine}
 use Rattle.spines.specs.Tokens.{path_tokens, record_tokens, at_hand, Ahead}
 use Rattle.spines.proofs.TableLaws.{active_drop}
 use Rattle.holders.specs.Voice.{has, or_four, free_voice}
-use Rattle.holders.specs.Holders.{voice_of}
 use Rattle.std.proofs.Common.{Option, Some, None, is_some, unwrap_or}
 use Rattle.std.specs.List.{list_any, slice_get, filter, enumerate_from}
 use Rattle.std.specs.Option.{option_map}
@@ -29,7 +28,7 @@ use Rattle.paths.specs.Voices.{lowest}
 use Rattle.paths.specs.declared.Spine.TheVariants.{Line, Branch, Outside}
 use Rattle.voices.specs.Mask.{voice_of as found_voice}
 use Rattle.voices.proofs.MaskLaws.{lowest_low}
-use Rattle.holders.specs.Walk.{listed, put, is_of, carries, is_split, line_voice, entry, line_step, lines_from, branches_from, or_zero, kern_column}
+use Rattle.holders.specs.Walk.{voice_of, listed, put, is_of, carries, is_split, line_voice, entry, line_step, lines_from, branches_from, or_zero, kern_column}
 use Rattle.holders.specs.declared.list.Holder.{Holder}
 use Rattle.holders.specs.declared.list.Holders.{Holders}
 

@@ -2,11 +2,8 @@
 use Rattle.std.specs.Prelude.{Bool, true, false, cond, ◌&&◌, List, [], ◌∷◌, ◌++◌, map, ◌≡◌, ℕ, zero, suc, ◌+◌, ◌<◌, eqb, ltb, length, take, drop}
 use Rattle.std.proofs.Math.Option.{Option, none, some}
 use Rattle.paths.specs.Record.{Rec}
-use Rattle.paths.specs.Row.{spine_at}
-use Rattle.paths.specs.declared.Spine.{Spine}
-use Rattle.paths.specs.declared.Spine.TheVariants.{Line, Branch, Outside}
-use Rattle.paths.specs.Text.{Reading, reached, ended, refused, read_to}
-use Rattle.paths.specs.Trace.{Origin, from, branch_of, nowhere, origin_in, columns, count, is_part, part, trace}
+use Rattle.paths.specs.Trace.{Ending, Origin, from, branch_of, nowhere, origin_in, columns, count, is_part, part, trace}
+use Rattle.paths.specs.TracedVoice.{voice}
 use Rattle.holders.specs.Voice.{free_voice}
 use Rattle.holders.specs.declared.list.Holder.{Holder}
 
@@ -34,22 +31,10 @@ parent_of (from k) = k
 parent_of (branch_of k) = k
 parent_of nowhere = 0
 
--- a column from 1, 0 for none
-abbrev pub from_one : Option ℕ → ℕ
+-- the column at which a trace ends, from 1, 0 for none
+abbrev pub from_one : Option Ending → ℕ
 from_one none = 0
-from_one (some k) = k + 1
-
--- the row that the reading has come to
-abbrev pub row_in : Reading → List Spine
-row_in (reached row) = row
-row_in ended = []
-row_in (refused q f) = []
-
--- the voice that a line has
-abbrev pub voice_of : Spine → ℕ
-voice_of (Line p v) = v
-voice_of (Branch p) = 0
-voice_of Outside = 0
+from_one (some e) = e.column + 1
 
 -- "then the branches in order, ending with the one that found nothing": behind those so far, one of each of these columns
 unfoldable pub with_branches : (ℕ → ℕ → Holder) → List Holder → List ℕ → List Holder
@@ -76,9 +61,9 @@ module _ (h : List Bool) (recs : ℕ → Rec) (n q : ℕ) where
   abbrev pub holder : ℕ → ℕ → Holder
   holder i v = record { column = i + 1; voice = v; header = from_one (trace recs n i) }
 
-  -- "Lines keep their voice"
+  -- "Lines keep their voice": the voice is the one that the text says
   unfoldable pub holders : List Holder
-  holders = with_branches holder (map (λ i. holder i (voice_of (spine_at (row_in (read_to h recs n)) i))) line_columns) branch_columns
+  holders = with_branches holder (map (λ i. holder i (voice h recs n i)) line_columns) branch_columns
 
 -- how many of them have a voice
 unfoldable pub times : ℕ → List Holder → ℕ

@@ -6,7 +6,6 @@ use Rattle.paths.specs.declared.Spine.{Spine}
 use Rattle.paths.specs.declared.Spine.TheVariants.{Line, Branch, Outside}
 use Rattle.paths.specs.Token.{is_join}
 use Rattle.holders.specs.Voice.{free_voice}
-use Rattle.holders.specs.Holders.{voice_of}
 use Rattle.holders.specs.declared.list.Holder.{Holder}
 use Rattle.holders.specs.declared.list.Holders.{Holders}
 
@@ -34,6 +33,12 @@ is_split Exchange = false
 is_split End = false
 is_split Add = false
 is_split Other = false
+
+-- the voice that a line has
+abbrev pub voice_of : Spine → ℕ
+voice_of (Line p v) = v
+voice_of (Branch p) = 0
+voice_of Outside = 0
 
 -- a line of part p
 abbrev pub is_of : ℕ → Spine → Bool

@@ -13,7 +13,7 @@ use Rattle.slices.proofs.TestLaws.{clash, both}
 use Rattle.pitch.specs.Pitch.{within}
 use Rattle.pitch.proofs.Letters.{within_low}
 use Rattle.duration.specs.Ratio.{is_ratio}
-use Rattle.items.specs.Items.{is_digit, is_letter, joins, into, runs, is_number, pieces, pieces_of, more, first, goes_on, piece_by, first_piece}
+use Rattle.items.specs.Items.{is_digit, is_letter, joins, into, runs, is_number, is_percent, pieces, pieces_of, more, first, goes_on, piece_by, first_piece}
 
 -- ---- the first run, and the runs behind it
 run_by : (x y k : ℕ) (ys : List ℕ) (t : Bool) → runs (y ∷ ys) ≡ (y ∷ take k ys) ∷ runs (drop k ys)
@@ -143,7 +143,7 @@ piece_low s h = go (is_number s) (goes_on (drop (first s) s)) refl
     go false c e = first_low s h
 
 -- ---- whether a `%` stands in it
-no_percent : (x : ℕ) → is_digit x ≡ true → eqb x 37 ≡ false
+pub no_percent : (x : ℕ) → is_digit x ≡ true → eqb x 37 ≡ false
 no_percent x d = ne_eqb x 37 (λ e. omega (arith, within_low 48 57 x d))
 
 digits_more : (x : ℕ) (xs : List ℕ) → is_digit x ≡ true → is_ratio (x ∷ take (more x xs) xs) ≡ false
@@ -169,3 +169,25 @@ percent_in (x ∷ xs) (suc k) h e = go (eqb x 37) (percent_in xs k (le_of_suc-le
     go : (t : Bool) → is_ratio xs ≡ true → cond t true (is_ratio xs) ≡ true
     go true rest = refl
     go false rest = rest
+
+-- ---- the three runs of a ratio
+pub percent_byte : (p : List ℕ) → is_percent p ≡ true → p ≡ 37 ∷ []
+percent_byte [] e = cc
+percent_byte (x ∷ []) e = ap (λ (y : ℕ). y ∷ []) (eqb-true x 37 e)
+percent_byte (x ∷ y ∷ p) e = let l = eqb-true _ _ (both (eqb (length (x ∷ y ∷ p)) 1) (eqb x 37) e).0 in absurd (omega arith)
+
+pub number_append : (r t : List ℕ) → is_number r ≡ true → is_number (r ++ t) ≡ true
+unfolding within
+number_append [] t d = cc
+number_append (x ∷ r) t d = d
+
+pub record Three (r p q : List ℕ) : Type 0 where
+  pub first : is_number r ≡ true
+  pub percent : is_percent p ≡ true
+  pub second : is_number q ≡ true
+
+pub three : (r p q : List ℕ) → (is_number r && is_percent p && is_number q) ≡ true → Three r p q
+three r p q e =
+    let b = both (is_number r && is_percent p) (is_number q) e in
+    let a = both (is_number r) (is_percent p) b.0 in
+    record { first = a.0; percent = a.1; second = b.1 }

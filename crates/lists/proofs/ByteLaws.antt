@@ -4,7 +4,7 @@ use Prim.Native.Nat.{ℕ, suc, ◌+◌, ◌-◌, ◌≤◌, ◌<◌}
 use native.Mathlib.Omega.{arith}
 use native.Mathlib.Numerals.{add-one}
 use mathlib.Core.List.{List, [], ◌∷◌, ◌++◌}
-use mathlib.Core.Bool.{Bool, true, false, cond}
+use mathlib.Core.Bool.{Bool, true, false, cond, ◌&&◌}
 use lib.Dec.{eqb, ltb, eqb→eq}
 use lib.ListN.{length, drop, get_or, drop_of_length-le}
 use lib.Seq.{sets, drop-cons}
@@ -13,8 +13,11 @@ use Rattle.slices.specs.Finite.{below}
 use Rattle.slices.specs.Store.{stored}
 use Rattle.pitch.specs.Pitch.{within}
 use Rattle.pitch.proofs.Letters.{within_low, within_high, seven}
-use Rattle.items.specs.Items.{is_digit, is_letter, joins, into, runs, item_of, items_of}
+use Rattle.duration.specs.Ratio.{is_ratio, spelled_value}
+use Rattle.items.specs.Items.{is_digit, is_letter, joins, into, runs, is_number, is_percent, pieces, length_item, item_of, items_of}
 use Rattle.items.specs.declared.Item.{Item}
+use Rattle.items.specs.declared.Item.TheVariants.{Digits, Ratio, Letters, Blank, Mark}
+use Rattle.items.proofs.PieceLaws.{percent_byte, number_append, three}
 use Rattle.token.specs.Token.{marks, articulation, articulations_in, articulations_of}
 use Rattle.lists.specs.Lists.{articulation_bytes}
 use Rattle.lists.proofs.FillLaws.{Filling, fill_first, fill_as, fill_room, fill_turn, fill_past}
@@ -44,6 +47,15 @@ blank_none : (b : ℕ) → eqb b 32 ≡ true → articulation b ≡ 5
 unfolding articulation
 blank_none b e = ap articulation (eqb-true b 32 e)
 
+-- ---- a length gives nothing
+length_gives : (r : List ℕ) (is : List Item) → articulations_of (length_item r ∷ is) ≡ articulations_of is
+unfolding marks
+length_gives r is = go (is_ratio r)
+  where
+    go : (t : Bool) → articulations_of (cond t (Ratio (spelled_value r)) (Digits (spelled_value r)) ∷ is) ≡ articulations_of is
+    go true = refl
+    go false = refl
+
 -- ---- a run gives what its first byte gives
 run_gives : (b : ℕ) (r : List ℕ) (is : List Item) → articulations_of (item_of (b ∷ r) ∷ is) ≡ articulations_in (b ∷ marks is)
 unfolding item_of marks
@@ -58,7 +70,7 @@ run_gives b r is = go (is_digit b) refl
     letter false p d = other (eqb b 32) refl p d
 
     go : (t : Bool) → is_digit b ≡ t → articulations_of (item_of (b ∷ r) ∷ is) ≡ articulations_in (b ∷ marks is)
-    go true p = rw p (sym (pass b (marks is) (digit_none b p)))
+    go true p = rw p (length_gives (b ∷ r) is ∙ sym (pass b (marks is) (digit_none b p)))
     go false p = letter (is_letter b) refl p
 
 -- a byte that joins one before it gives nothing
@@ -85,10 +97,47 @@ into_gives b ((c ∷ r) ∷ rs) = go (joins b c) refl
     go true p = run_gives b (c ∷ r) (items_of rs) ∙ behind b _ _ (sym (run_gives c r (items_of rs) ∙ pass c (marks (items_of rs)) (joined b c p)))
     go false p = run_gives b [] (items_of ((c ∷ r) ∷ rs))
 
-by_bytes : (s : List ℕ) → articulation_bytes s ≡ articulations_in s
+runs_give : (s : List ℕ) → articulations_of (items_of (runs s)) ≡ articulations_in s
 unfolding runs items_of marks
-by_bytes [] = refl
-by_bytes (b ∷ s) = into_gives b (runs s) ∙ behind b _ _ (by_bytes s)
+runs_give [] = refl
+runs_give (b ∷ s) = into_gives b (runs s) ∙ behind b _ _ (runs_give s)
+
+-- ---- the pieces give what the runs give: of a ratio's three, nothing
+number_gives : (r : List ℕ) (is : List Item) → is_number r ≡ true → articulations_of (item_of r ∷ is) ≡ articulations_of is
+unfolding item_of within
+number_gives [] is e = cc
+number_gives (b ∷ r) is e = rw e (length_gives (b ∷ r) is)
+
+percent_gives : (r : List ℕ) (is : List Item) → is_percent r ≡ true → articulations_of (item_of r ∷ is) ≡ articulations_of is
+unfolding articulation articulations_in
+percent_gives r is e = rw (percent_byte r e) (run_gives 37 [] is)
+
+item_gives : (i : Item) (is js : List Item) → articulations_of is ≡ articulations_of js → articulations_of (i ∷ is) ≡ articulations_of (i ∷ js)
+unfolding marks
+item_gives (Digits v) is js e = e
+item_gives (Ratio v) is js e = e
+item_gives (Letters c n) is js e = e
+item_gives Blank is js e = e
+item_gives (Mark b) is js e = behind b (marks is) (marks js) e
+
+pieces_give : (rs : List (List ℕ)) → articulations_of (items_of (pieces rs)) ≡ articulations_of (items_of rs)
+unfolding items_of pieces
+pieces_give [] = refl
+pieces_give (r ∷ []) = refl
+pieces_give (r ∷ p ∷ []) = refl
+pieces_give (r ∷ p ∷ q ∷ rs) = go (is_number r && is_percent p && is_number q) refl (pieces_give rs) (pieces_give (p ∷ q ∷ rs))
+  where
+    go : (t : Bool) → (is_number r && is_percent p && is_number q) ≡ t → articulations_of (items_of (pieces rs)) ≡ articulations_of (items_of rs)
+        → articulations_of (items_of (pieces (p ∷ q ∷ rs))) ≡ articulations_of (items_of (p ∷ q ∷ rs))
+        → articulations_of (items_of (cond t ((r ++ (p ++ q)) ∷ pieces rs) (r ∷ pieces (p ∷ q ∷ rs)))) ≡ articulations_of (items_of (r ∷ p ∷ q ∷ rs))
+    go true e h k =
+        let t = three r p q e in
+        number_gives (r ++ (p ++ q)) (items_of (pieces rs)) (number_append r (p ++ q) t.first) ∙ h
+        ∙ sym (number_gives r (items_of (p ∷ q ∷ rs)) t.first ∙ percent_gives p (items_of (q ∷ rs)) t.percent ∙ number_gives q (items_of rs) t.second)
+    go false e h k = item_gives (item_of r) _ _ k
+
+by_bytes : (s : List ℕ) → articulation_bytes s ≡ articulations_in s
+by_bytes s = pieces_give (runs s) ∙ runs_give s
 
 -- ---- the loop: what the bytes still to come give
 pub record Marking (old out token : List ℕ) (k i : ℕ) : Type 0 where

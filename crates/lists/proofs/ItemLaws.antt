@@ -6,7 +6,7 @@ use mathlib.Core.List.{List, [], ◌∷◌, ◌++◌, append-nil}
 use lib.ListN.{length}
 use Rattle.pitch.specs.Pitch.{twos_complement}
 use Rattle.items.specs.declared.Item.{Item}
-use Rattle.items.specs.declared.Item.TheVariants.{Digits, Letters, Blank, Mark}
+use Rattle.items.specs.declared.Item.TheVariants.{Digits, Ratio, Letters, Blank, Mark}
 use Rattle.token.specs.Token.{given, heard}
 use Rattle.token.specs.declared.pitches.Tone.{Tone}
 use Rattle.std.specs.Prelude.{Option, Some, None}
@@ -21,6 +21,7 @@ tones_append (t ∷ a) b = ap (λ (l : List ℕ). t.step ∷ t.octave ∷ twos_c
 pub heard_more : (s : Option Tone) (i : Item) (is : List Item) → tone_bytes (heard s (i ∷ is)) ≡ ended_by s i ++ tone_bytes (heard (sound_after s i) is)
 unfolding heard
 heard_more s (Digits v) is = refl
+heard_more s (Ratio v) is = refl
 heard_more s (Letters c n) is = refl
 heard_more s Blank is = tones_append (given s) (heard None is)
 heard_more s (Mark b) is = refl

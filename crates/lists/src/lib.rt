@@ -60,7 +60,7 @@ fn put_run(out: &mut [u8], k: usize, run: &[u8]) -> usize
 }
 
 // The signifiers of a token, for which there is room.
-#[tactic(auto, using(items::proofs::NextLaws::end_on))]
+#[tactic(auto, using(items::proofs::NextLaws::ends))]
 pub fn fill_signifiers(out: &mut [u8], token: &[u8])
     requires { length (signifier_bytes token.now) ≤ length out.old }
     ensures { out.new ≡ stored out.old (signifier_bytes token.now) }
@@ -68,7 +68,7 @@ pub fn fill_signifiers(out: &mut [u8], token: &[u8])
     let mut sounding = false;
     let mut k = 0;
     let mut i = 0;
-    // Stays: no plainer: a turn goes on behind an item; `items::next_item` gives digits a value, for which no one asks here.
+    // Stays: no plainer: a turn goes on behind an item; `items::next_item` gives a length its value, for which no one asks here.
     while i < token.len() {
         let b = token[i];
         if items::is_digit(b) {
@@ -157,7 +157,7 @@ fn sign(s: Option<Tone>, b: u8) -> Option<Tone>
 // The pitches of a token that is no rest, for which there is room.
 // Stays: no plainer: it shares with `fill_signifiers` the tests of an item's kind alone; one walk would take a trait of five methods.
 #[inline(never)]
-#[tactic(auto, using(items::proofs::NextLaws::end_on))]
+#[tactic(auto, using(items::proofs::NextLaws::ends))]
 pub fn fill_pitches(out: &mut [u8], token: &[u8])
     requires { (rest_of (items token.now) ≡ false) × (length (pitch_bytes token.now) ≤ length out.old) }
     ensures { out.new ≡ stored out.old (pitch_bytes token.now) }
@@ -165,7 +165,7 @@ pub fn fill_pitches(out: &mut [u8], token: &[u8])
     let mut sound = None;
     let mut k = 0;
     let mut i = 0;
-    // Stays: no plainer: a turn goes on behind an item; `items::next_item` gives digits a value, for which no one asks here.
+    // Stays: no plainer: a turn goes on behind an item; `items::next_item` gives a length its value, for which no one asks here.
     while i < token.len() {
         let b = token[i];
         if items::is_digit(b) {

@@ -87,7 +87,7 @@ module _ (h : List Bool) (recs : ℕ → Rec) where
     no_branch : (k q : ℕ) → spine_at row k ≢ Branch q
     no_branch = sound_voiced row is_held.sound
 
-    origin_is : (j : ℕ) → origin_in (recs n) j ≡ origin ts j
+    pub origin_is : (j : ℕ) → origin_in (recs n) j ≡ origin ts j
     unfolding origin_in
     origin_is j = ap (λ (r : Rec). origin_in r j) x
 

@@ -13,7 +13,7 @@ use Rattle.paths.specs.declared.Spine.{Spine}
 use Rattle.paths.specs.declared.Spine.TheVariants.{Line, Outside}
 use Rattle.paths.specs.Joins.{strays, mixed_from}
 use Rattle.paths.specs.Voices.{Outcome, next, mixed, voiceless, wide, holds, lowest, with_voice, give_voices, voice_row, step_row}
-use Rattle.paths.specs.Trace.{from, branch_of, nowhere, exchanges_right, exchanges_left, follows_join, gives_of, gives, before, width, source_of, source, look_back, origin, origin_in, trace, kerns_before, header_part, part, columns}
+use Rattle.paths.specs.Trace.{from, branch_of, nowhere, exchanges_right, exchanges_left, follows_join, gives_of, gives, before, width, source_of, source, look_back, origin, origin_in, trace, kerns_before, part_from, part_at_end, part, columns}
 use Rattle.paths.specs.TracedVoice.{some_below, lowest_free, kept, given, voice}
 use Rattle.paths.specs.Text.{header_from, reached, ended, refused, take_record, read_to}
 
@@ -115,12 +115,12 @@ unfolding origin look_back source source_of exchanges_right exchanges_left follo
 thirds = refl
 
 parts : map (part header crossing 3) (0 ∷ 1 ∷ 2 ∷ 3 ∷ 4 ∷ 5 ∷ 6 ∷ []) ≡ some 0 ∷ some 0 ∷ some 1 ∷ some 1 ∷ none ∷ none ∷ none ∷ []
-unfolding header crossing part trace bind header_part kerns_before origin_in origin look_back source source_of exchanges_right exchanges_left follows_join gives gives_of before width
+unfolding header crossing part trace bind part_at_end part_from kerns_before origin_in origin look_back source source_of exchanges_right exchanges_left follows_join gives gives_of before width
 parts = refl
 
 -- the voices that the text says: of these, and of one part that splits, frees voice 0 while two lines split, joins and exchanges
 voices : map (voice header crossing 3) (0 ∷ 1 ∷ 2 ∷ 3 ∷ 4 ∷ 5 ∷ []) ≡ 0 ∷ 1 ∷ 0 ∷ 1 ∷ 0 ∷ 0 ∷ []
-unfolding header crossing voice kept given some_below lowest_free columns part trace bind header_part kerns_before origin_in origin look_back source source_of exchanges_right exchanges_left follows_join gives gives_of before width
+unfolding header crossing voice kept given some_below lowest_free columns part trace bind part_at_end part_from kerns_before origin_in origin look_back source source_of exchanges_right exchanges_left follows_join gives gives_of before width
 voices = refl
 
 freeing : ℕ → Rec
@@ -133,5 +133,5 @@ abbrev voices_of : ℕ → ℕ → List ℕ
 voices_of n w = map (voice (true ∷ []) freeing n) (take w (0 ∷ 1 ∷ 2 ∷ 3 ∷ []))
 
 freed : (voices_of 1 2 ++ voices_of 2 3 ++ voices_of 3 4 ++ voices_of 4 3) ≡ (0 ∷ 1 ∷ []) ++ (0 ∷ 2 ∷ 1 ∷ []) ++ (2 ∷ 0 ∷ 1 ∷ 3 ∷ []) ++ (2 ∷ 3 ∷ 1 ∷ [])
-unfolding freeing voice kept given some_below lowest_free columns part trace bind header_part kerns_before origin_in origin look_back source source_of exchanges_right exchanges_left follows_join gives gives_of before width
+unfolding freeing voice kept given some_below lowest_free columns part trace bind part_at_end part_from kerns_before origin_in origin look_back source source_of exchanges_right exchanges_left follows_join gives gives_of before width
 freed = refl

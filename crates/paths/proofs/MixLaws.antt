@@ -1,6 +1,6 @@
 -- Question 17 over a sequence of records: a record that is taken, or stopped by a later question, mixes no origins, so every trace ends in one part.
 use mathlib.Core.Path.{◌≡◌, refl, sym, ap, ◌∙◌, subst}
-use mathlib.Core.Bool.{Bool}
+use mathlib.Core.Bool.{Bool, true, false, cond}
 use mathlib.Core.List.{List, [], ◌∷◌}
 use mathlib.Core.Logic.{◌≢◌}
 use mathlib.Core.Option.{Option, none, some, bind}
@@ -15,12 +15,12 @@ use Rattle.paths.specs.Row.{part_at}
 use Rattle.paths.specs.declared.Spine.{Spine}
 use Rattle.paths.specs.Joins.{mixed_run}
 use Rattle.paths.specs.Voices.{mixed, step_row}
-use Rattle.paths.specs.Trace.{origin_in, column_of, trace, header_part, part, InRun, Joined, MayEnd, at_header, from_none, from_one, from_join, Unmixed, FirstMixed}
+use Rattle.paths.specs.Trace.{origin_in, column_of, trace, Ending, ending, opens, parts_to, opened_part, part_at_end, end_part, part, InRun, Joined, MayEnd, at_header, at_later, from_none, from_one, from_join, Unmixed, FirstMixed}
 use Rattle.paths.specs.Text.{Reading, reached, ended, refused, reading, take_record, and_then, read_to}
 use Rattle.paths.specs.Demand.{At}
 use Rattle.paths.proofs.JoinLaws.{Begins, MixedIs, run_is}
 use Rattle.paths.proofs.StepLaws.{RecordIs}
-use Rattle.paths.proofs.TextLaws.{row_held, one_more, record_read, part_zero, part_suc}
+use Rattle.paths.proofs.TextLaws.{row_held, one_more, record_read, part_zero, part_step, part_on, part_suc}
 
 step_mixed : (row : List Spine) (ts : List PathToken) (c : ℕ) → mixed_run (part_at row) ts ≡ some c → step_row row ts ≡ mixed (c + 1)
 unfolding step_row
@@ -116,10 +116,12 @@ module _ (h : List Bool) (recs : ℕ → Rec) where
   unfolding read_to
   earlier n r e = before (read_to h recs n) (λ row. take_record row (recs n)) r e
 
-  pub ends_in : {n j : ℕ} {e : Option ℕ} → MayEnd recs n j e → (row : List Spine) → At h recs n row → bind e (header_part h) ≡ part h recs n j
-  unfolding bind
+  pub ends_in : {n j : ℕ} {e : Option Ending} → MayEnd recs n j e → (row : List Spine) → At h recs n row → bind e (end_part h recs) ≡ part h recs n j
+  unfolding bind part_at_end
   ends_in (at_header {j = j}) row at = sym (part_zero h recs j)
-  ends_in (from_none {n = n} {j = j} p) row at = sym (part_suc h recs n j ∙ ap (λ (o : Option ℕ). bind o (part h recs n)) p)
+  ends_in (at_later {n = n} {j = j} o) row at =
+      sym (part_step h recs n j ∙ ap (λ (b : Bool). cond b (opened_part (parts_to h recs n) (recs n) j) (bind (column_of (origin_in (recs n) j)) (part h recs n))) o)
+  ends_in (from_none {n = n} {j = j} o p) row at = sym (part_on h recs n j o ∙ ap (λ (o : Option ℕ). bind o (part h recs n)) p)
   ends_in (from_one {n = n} {j = j} {i = i} p m) row at =
       let b : (row : List Spine) × At h recs n row = earlier n row at in
       ends_in m b.0 b.1 ∙ came_from n j i p
@@ -131,8 +133,10 @@ module _ (h : List Bool) (recs : ℕ → Rec) where
 pub leftmost_ends : (recs : ℕ → Rec) (n j : ℕ) → MayEnd recs n j (trace recs n j)
 unfolding trace bind
 leftmost_ends recs zero j = at_header
-leftmost_ends recs (suc n) j = go (column_of (origin_in (recs n) j)) refl (leftmost_ends recs n)
+leftmost_ends recs (suc n) j = go (opens (recs n) j) refl (column_of (origin_in (recs n) j)) refl (leftmost_ends recs n)
   where
-    go : (o : Option ℕ) → column_of (origin_in (recs n) j) ≡ o → ((i : ℕ) → MayEnd recs n i (trace recs n i)) → MayEnd recs (suc n) j (bind o (trace recs n))
-    go none p rest = from_none p
-    go (some i) p rest = from_one p (rest i)
+    go : (b : Bool) → opens (recs n) j ≡ b → (o : Option ℕ) → column_of (origin_in (recs n) j) ≡ o → ((i : ℕ) → MayEnd recs n i (trace recs n i))
+        → MayEnd recs (suc n) j (cond b (some (ending (suc n) j)) (bind o (trace recs n)))
+    go true x o p rest = at_later x
+    go false x none p rest = from_none x p
+    go false x (some i) p rest = from_one p (rest i)

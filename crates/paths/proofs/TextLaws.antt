@@ -8,11 +8,11 @@ use native.Mathlib.Omega.{arith}
 use native.Mathlib.Decide.{ℕ_discrete}
 use lib.ListN.{length, get_or}
 use Rattle.slices.proofs.TestLaws.{clash}
-use Rattle.paths.specs.Record.{Rec}
+use Rattle.paths.specs.Record.{Rec, star, plain}
 use Rattle.paths.specs.Row.{spine_at, part_at}
 use Rattle.paths.specs.declared.Spine.{Spine}
 use Rattle.paths.specs.declared.Spine.TheVariants.{Line}
-use Rattle.paths.specs.Trace.{origin_in, column_of, trace, kerns_before, header_part, part, columns, width_in}
+use Rattle.paths.specs.Trace.{origin_in, column_of, trace, Ending, ending, opens, kerns_before, part_from, made_in, parts_to, opened_part, part_at_end, end_part, part, columns, width_in}
 use Rattle.paths.specs.Text.{header_from, header_row, Reading, reached, ended, refused, take_record, and_then, read_to}
 use Rattle.paths.proofs.Counts.{same, same_no, same_le, total, at, of_branch, high, low_bit}
 use Rattle.paths.proofs.VoiceLaws.{Sound}
@@ -65,9 +65,9 @@ header_from_lem (true ∷ h) n (suc k) = let e : suc n + kerns_before h k ≡ n 
 header_from_lem (false ∷ h) n zero = refl
 header_from_lem (false ∷ h) n (suc k) = header_from_lem h n k
 
-header_part_lem : (h : List Bool) (k : ℕ) → part_at (header_row h) k ≡ header_part h k
-unfolding header_part
-header_part_lem h k = let e : 0 + kerns_before h k ≡ kerns_before h k = omega arith in rw e at (header_from_lem h 0 k)
+header_part_lem : (h : List Bool) (k : ℕ) → part_at (header_row h) k ≡ part_from 0 h k
+unfolding part_from
+header_part_lem h k = header_from_lem h 0 k
 
 pub header_voice : (h : List Bool) (n j p v : ℕ) → spine_at (header_from n h) j ≡ Line p v → v ≡ 0
 unfolding header_from
@@ -77,6 +77,32 @@ header_voice (true ∷ h) n (suc j) p v e = header_voice h (suc n) j p v e
 header_voice (false ∷ h) n zero p v e = clash cc
 header_voice (false ∷ h) n (suc j) p v e = header_voice h n j p v e
 
+-- ---- the parts of ends
+
+kerns_below : (h : List Bool) (k : ℕ) → get_or h k false ≡ true → kerns_before h k < kerns_before h (length h)
+unfolding kerns_before
+kerns_below [] k e = clash cc
+kerns_below (true ∷ h) zero e = omega arith
+kerns_below (true ∷ h) (suc k) e = omega (arith, kerns_below h k e)
+kerns_below (false ∷ h) zero e = clash cc
+kerns_below (false ∷ h) (suc k) e = kerns_below h k e
+
+from_below : (p : ℕ) (h : List Bool) (k q : ℕ) → part_from p h k ≡ some q → q < p + kerns_before h (length h)
+unfolding part_from
+from_below p h k q e = go (get_or h k false) refl e
+  where
+    go : (b : Bool) → get_or h k false ≡ b → cond b (some (p + kerns_before h k)) none ≡ some q → q < p + kerns_before h (length h)
+    go true t x = let y : p + kerns_before h k ≡ q = cc in omega (arith, kerns_below h k t)
+    go false t x = clash cc
+
+opened_below : (p : ℕ) (x : Rec) (j q : ℕ) → opened_part p x j ≡ some q → q < p + made_in x
+opened_below p (star ts) j q e = clash cc
+opened_below p (plain k) j q e = clash cc
+
+none_opens : (x : Rec) (j : ℕ) → opens x j ≡ false
+none_opens (star ts) j = refl
+none_opens (plain k) j = refl
+
 -- ---- every text
 
 -- what holds of a row that is reached
@@ -85,7 +111,7 @@ OnRow P (reached row) = P row
 OnRow P ended = Unit {0}
 OnRow P (refused q f) = Unit {0}
 
-bind_assoc : (o : Option ℕ) (f g : ℕ → Option ℕ) → bind (bind o f) g ≡ bind o (λ x. bind (f x) g)
+bind_assoc : (o : Option ℕ) (f : ℕ → Option Ending) (g : Ending → Option ℕ) → bind (bind o f) g ≡ bind o (λ x. bind (f x) g)
 unfolding bind
 bind_assoc none f g = refl
 bind_assoc (some x) f g = refl
@@ -102,13 +128,40 @@ module _ (h : List Bool) (recs : ℕ → Rec) where
     pub parts : (j : ℕ) → part_at row j ≡ part h recs n j
     pub size : length row ≡ columns h recs n
 
-  pub part_zero : (j : ℕ) → part h recs 0 j ≡ header_part h j
-  unfolding part trace bind
+  pub part_zero : (j : ℕ) → part h recs 0 j ≡ part_from 0 h j
+  unfolding part trace bind part_at_end
   part_zero j = refl
 
+  -- the part of a column that record n begins, or that comes from another
+  pub part_step : (n j : ℕ) → part h recs (suc n) j ≡ cond (opens (recs n) j) (opened_part (parts_to h recs n) (recs n) j) (bind (column_of (origin_in (recs n) j)) (part h recs n))
+  unfolding part trace bind part_at_end
+  part_step n j = go (opens (recs n) j)
+    where
+      go : (b : Bool) → bind (cond b (some (ending (suc n) j)) (bind (column_of (origin_in (recs n) j)) (trace recs n))) (end_part h recs)
+          ≡ cond b (opened_part (parts_to h recs n) (recs n) j) (bind (column_of (origin_in (recs n) j)) (part h recs n))
+      go true = refl
+      go false = bind_assoc (column_of (origin_in (recs n) j)) (trace recs n) (end_part h recs)
+
+  pub part_on : (n j : ℕ) → opens (recs n) j ≡ false → part h recs (suc n) j ≡ bind (column_of (origin_in (recs n) j)) (part h recs n)
+  part_on n j e = part_step n j ∙ ap (λ (b : Bool). cond b (opened_part (parts_to h recs n) (recs n) j) (bind (column_of (origin_in (recs n) j)) (part h recs n))) e
+
   pub part_suc : (n j : ℕ) → part h recs (suc n) j ≡ bind (column_of (origin_in (recs n) j)) (part h recs n)
-  unfolding part trace
-  part_suc n j = bind_assoc (column_of (origin_in (recs n) j)) (trace recs n) (header_part h)
+  part_suc n j = part_on n j (none_opens (recs n) j)
+
+  -- a part is below how many there are
+  pub part_below : (n j q : ℕ) → part h recs n j ≡ some q → q < parts_to h recs n
+  unfolding parts_to bind
+  part_below zero j q e = omega (arith, from_below 0 h j q (sym (part_zero j) ∙ e))
+  part_below (suc n) j q e = go (part_below n) (opens (recs n) j) (sym (part_step n j) ∙ e)
+    where
+      back : ((i r : ℕ) → part h recs n i ≡ some r → r < parts_to h recs n) → (o : Option ℕ) → bind o (part h recs n) ≡ some q → q < parts_to h recs n + made_in (recs n)
+      back before none x = clash cc
+      back before (some i) x = omega (arith, before i q x)
+
+      go : ((i r : ℕ) → part h recs n i ≡ some r → r < parts_to h recs n) → (b : Bool)
+          → cond b (opened_part (parts_to h recs n) (recs n) j) (bind (column_of (origin_in (recs n) j)) (part h recs n)) ≡ some q → q < parts_to h recs n + made_in (recs n)
+      go before true x = opened_below (parts_to h recs n) (recs n) j q x
+      go before false x = back before (column_of (origin_in (recs n) j)) x
 
   held_next : (n : ℕ) (row : List Spine) → Held n row → (o : Reading) → RecordIs (recs n) row o → OnRow (Held (suc n)) o
   unfolding columns

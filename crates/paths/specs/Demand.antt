@@ -7,7 +7,7 @@ use Rattle.paths.specs.Record.{Rec, star, plain, tokens}
 use Rattle.paths.specs.Row.{part_of, spine_at}
 use Rattle.paths.specs.declared.Spine.{Spine}
 use Rattle.paths.specs.declared.Spine.TheVariants.{Line, Branch}
-use Rattle.paths.specs.Trace.{from, branch_of, origin_in, columns, trace, header_part, part, lines, precedes, FirstWithout, MayEnd, Unmixed, FirstMixed}
+use Rattle.paths.specs.Trace.{from, branch_of, origin_in, columns, trace, Ending, end_part, part, lines, precedes, FirstWithout, MayEnd, Unmixed, FirstMixed}
 use Rattle.paths.specs.Text.{reached, ended, refused, read_to}
 
 -- the reading has come to this row after n records
@@ -62,5 +62,5 @@ pub record Demand (h : List Bool) (recs : ℕ → Rec) : Type 0 where
   pub unmixed : (n : ℕ) (row next : List Spine) → At h recs n row → At h recs (suc n) next → Unmixed h recs n
   pub unmixed_8 : (n : ℕ) (row : List Spine) → At h recs n row → (q : ℕ) → read_to h recs (suc n) ≡ refused 8 q → Unmixed h recs n
   -- "an accepted trace ends in the same part, or outside kern, whichever line of a join it follows"; the leftmost trace is one of them.
-  pub one_origin : (n : ℕ) (row : List Spine) → At h recs n row → (j : ℕ) (e : Option ℕ) → MayEnd recs n j e → bind e (header_part h) ≡ part h recs n j
+  pub one_origin : (n : ℕ) (row : List Spine) → At h recs n row → (j : ℕ) (e : Option Ending) → MayEnd recs n j e → bind e (end_part h recs) ≡ part h recs n j
   pub leftmost : (n j : ℕ) → MayEnd recs n j (trace recs n j)

@@ -89,10 +89,23 @@ column_of (from i) = some i
 column_of (branch_of i) = some i
 column_of nowhere = none
 
+-- where a trace ends: at a column of the row after so many records, the header's row being that after none
+pub record Ending : Type 0 where
+  pub row : ℕ
+  pub column : ℕ
+
+abbrev pub ending : ℕ → ℕ → Ending
+ending n j = record { row = n; column = j }
+
+-- whether a record begins column j of the row that it makes, so that a trace ends there: none does, all end at the header
+abbrev pub opens : Rec → ℕ → Bool
+opens (star ts) j = false
+opens (plain k) j = false
+
 -- column j of the row after n records, "traced backwards" to a column of the header
-unfoldable pub trace : (ℕ → Rec) → ℕ → ℕ → Option ℕ
-trace recs zero j = some j
-trace recs (suc n) j = bind (column_of (origin_in (recs n) j)) (trace recs n)
+unfoldable pub trace : (ℕ → Rec) → ℕ → ℕ → Option Ending
+trace recs zero j = some (ending 0 j)
+trace recs (suc n) j = cond (opens (recs n) j) (some (ending (suc n) j)) (bind (column_of (origin_in (recs n) j)) (trace recs n))
 
 -- columns i to k have a `*v` each: they stand in one run
 abbrev pub InRun : List PathToken → ℕ → ℕ → Type 0
@@ -102,13 +115,14 @@ abbrev pub Joined : Rec → ℕ → ℕ → Type 0
 Joined (star ts) i k = InRun ts i k
 Joined (plain m) i k = ⊥
 
--- "whichever line of a join it follows": column j of the row after n records, traced backwards, may end at this column of the header, or at none. A
--- join comes from its first `*v` and from any other of its run.
-pub data MayEnd (recs : ℕ → Rec) : ℕ → ℕ → Option ℕ → Type 0 where
-  at_header : {j : ℕ} → MayEnd recs 0 j (some j)
-  from_none : {n j : ℕ} → column_of (origin_in (recs n) j) ≡ none → MayEnd recs (suc n) j none
-  from_one : {n j i : ℕ} {e : Option ℕ} → column_of (origin_in (recs n) j) ≡ some i → MayEnd recs n i e → MayEnd recs (suc n) j e
-  from_join : {n j i k : ℕ} {e : Option ℕ} → column_of (origin_in (recs n) j) ≡ some i → Joined (recs n) i k → MayEnd recs n k e → MayEnd recs (suc n) j e
+-- "whichever line of a join it follows": column j of the row after n records, traced backwards, may end at this row and column, or at none. A join comes
+-- from its first `*v` and from any other of its run.
+pub data MayEnd (recs : ℕ → Rec) : ℕ → ℕ → Option Ending → Type 0 where
+  at_header : {j : ℕ} → MayEnd recs 0 j (some (ending 0 j))
+  at_later : {n j : ℕ} → opens (recs n) j ≡ true → MayEnd recs (suc n) j (some (ending (suc n) j))
+  from_none : {n j : ℕ} → opens (recs n) j ≡ false → column_of (origin_in (recs n) j) ≡ none → MayEnd recs (suc n) j none
+  from_one : {n j i : ℕ} {e : Option Ending} → column_of (origin_in (recs n) j) ≡ some i → MayEnd recs n i e → MayEnd recs (suc n) j e
+  from_join : {n j i k : ℕ} {e : Option Ending} → column_of (origin_in (recs n) j) ≡ some i → Joined (recs n) i k → MayEnd recs n k e → MayEnd recs (suc n) j e
 
 -- how many of the header's columns left of column k are `**kern`
 unfoldable pub kerns_before : List Bool → ℕ → ℕ
@@ -117,13 +131,35 @@ kerns_before [] (suc k) = 0
 kerns_before (true ∷ h) (suc k) = suc (kerns_before h k)
 kerns_before (false ∷ h) (suc k) = kerns_before h k
 
--- "a part one `**kern` header column (numbered from 0)": h says which columns of the header are `**kern`
-unfoldable pub header_part : List Bool → ℕ → Option ℕ
-header_part h k = cond (get_or h k false) (some (kerns_before h k)) none
+-- "a part one `**kern` header column (numbered from 0)": h says which columns are `**kern`, and the parts are numbered on from p
+unfoldable pub part_from : ℕ → List Bool → ℕ → Option ℕ
+part_from p h k = cond (get_or h k false) (some (p + kerns_before h k)) none
+
+-- how many parts a record makes, and how many there are after n records: those of the header
+abbrev pub made_in : Rec → ℕ
+made_in (star ts) = 0
+made_in (plain k) = 0
+
+unfoldable pub parts_to : List Bool → (ℕ → Rec) → ℕ → ℕ
+parts_to h recs zero = kerns_before h (length h)
+parts_to h recs (suc n) = parts_to h recs n + made_in (recs n)
+
+-- the part of column j where a record begins it, numbered on from p
+abbrev pub opened_part : ℕ → Rec → ℕ → Option ℕ
+opened_part p (star ts) j = none
+opened_part p (plain k) j = none
+
+-- the part of the column at which a trace ends
+unfoldable pub part_at_end : List Bool → (ℕ → Rec) → ℕ → ℕ → Option ℕ
+part_at_end h recs zero j = part_from 0 h j
+part_at_end h recs (suc n) j = opened_part (parts_to h recs n) (recs n) j
+
+abbrev pub end_part : List Bool → (ℕ → Rec) → Ending → Option ℕ
+end_part h recs e = part_at_end h recs e.row e.column
 
 -- "Its part is the `**kern` header column reached; a column that reaches none is outside kern."
 unfoldable pub part : List Bool → (ℕ → Rec) → ℕ → ℕ → Option ℕ
-part h recs n j = bind (trace recs n j) (header_part h)
+part h recs n j = bind (trace recs n j) (end_part h recs)
 
 -- "lines of one part, or lines all outside kern": no run of `*v` of record n mixes origins
 abbrev pub Unmixed : List Bool → (ℕ → Rec) → ℕ → Type 0

@@ -6,7 +6,7 @@ use Prim.Native.Nat.{ℕ}
 use lib.ListN.{length}
 use Rattle.std.specs.Prelude.{Option, Some as Given, None, MatchOption}
 use Rattle.std.specs.Option.{is_some}
-use Rattle.duration.specs.Duration.{duration_of}
+use Rattle.duration.specs.Ratio.{spelled_value}
 use Rattle.duration.specs.declared.Value.{Value}
 use Rattle.std.specs.Borrow.{Bor}
 use Rattle.peers.specs.Peers.{offer_of, broken, digits_of}
@@ -35,6 +35,6 @@ whole_tally (More d) h e = cc
 whole_tally Broken h e = h refl
 
 -- the value of an answer's digits
-pub value_of_digits : {ds : List ℕ} {v : Option Value} (r : Option (Bor (List ℕ))) → MatchOption r (v ≡ None) (λ d. v ≡ duration_of d.now) → digits_of r ≡ ds → v ≡ duration_of ds
-value_of_digits None m e = m ∙ sym no_value ∙ ap duration_of e
-value_of_digits (Given d) m e = m ∙ ap duration_of e
+pub value_of_digits : {ds : List ℕ} {v : Option Value} (r : Option (Bor (List ℕ))) → MatchOption r (v ≡ None) (λ d. v ≡ spelled_value d.now) → digits_of r ≡ ds → v ≡ spelled_value ds
+value_of_digits None m e = m ∙ sym no_value ∙ ap spelled_value e
+value_of_digits (Given d) m e = m ∙ ap spelled_value e

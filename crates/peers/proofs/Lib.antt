@@ -1,4 +1,5 @@
 -- Laws about the neighbours of a token.
+pub mod LeadingLaws
 pub mod OfferLaws
 pub mod AgreeLaws
 pub mod TallyLaws

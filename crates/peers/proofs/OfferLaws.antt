@@ -3,22 +3,25 @@ use mathlib.Core.Path.{◌≡◌, refl, sym, ap, ◌∙◌}
 use Prim.Native.Nat.{ℕ, ◌+◌, ◌≤◌, ◌<◌}
 use native.Mathlib.Omega.{arith}
 use mathlib.Core.List.{List, [], ◌∷◌}
-use mathlib.Core.Bool.{Bool, true, false, cond, not, ◌&&◌, ◌||◌, false≢true}
-use lib.Dec.{eqb, ltb}
-use lib.ListN.{length, take, length-take}
-use borrow.Author.Tests.{eq-eqb, ne_eqb, ltb-true, ltb-false}
+use mathlib.Core.Bool.{Bool, true, false, cond, ◌&&◌, ◌||◌, false≢true}
+use lib.Dec.{eqb}
+use lib.ListN.{length, take, drop}
+use borrow.Author.Tests.{eq-eqb, ne_eqb}
 use Rattle.std.specs.Prelude.{Some, None, slice_get}
-use Rattle.std.specs.List.{list_all, list_any, position, position_or_len}
-use Rattle.std.proofs.lemmas.List.Recursion.{is_position_or_len}
+use Rattle.std.specs.List.{list_all, list_any}
 use Rattle.slices.proofs.TestLaws.{both}
 use Rattle.duration.specs.Duration.{duration_of, digits, counts}
+use Rattle.duration.specs.Ratio.{is_ratio, spelled_value}
 use Rattle.slices.specs.Compare.{same_bytes}
 use Rattle.duration.specs.declared.Value.{Value}
+use Rattle.pitch.specs.Pitch.{within}
 use Rattle.notation.specs.Bytes.{contains, trim_start}
-use Rattle.items.specs.Items.{is_digit, is_letter}
+use Rattle.items.specs.Items.{is_digit, is_letter, is_number, first_piece}
 use Rattle.items.proofs.NextLaws.{letter_no_digit}
+use Rattle.items.proofs.PieceLaws.{piece_low}
 use Rattle.token.specs.Token.{signs}
 use Rattle.peers.specs.Peers.{only_signs, is_bare, leading, forbids, offer_of, Offered}
+use Rattle.peers.proofs.LeadingLaws.{leading_none, leading_some, leading_twice}
 
 -- ---- signs only
 pub all_signs : (s : List ℕ) → list_all (λ x. contains x signs) s ≡ only_signs s
@@ -54,103 +57,98 @@ any_forbids (x ∷ xs) =
     go false false true false false f = refl
     go false false false d e f = refl
 
--- ---- leading digits
-pub leading_prefix : (t : List ℕ) → take (length (leading t)) t ≡ leading t
-unfolding leading
-leading_prefix [] = refl
-leading_prefix (x ∷ xs) = go (is_digit x) (leading_prefix xs)
-  where
-    go : (b : Bool) → take (length (leading xs)) xs ≡ leading xs → take (length (cond b (x ∷ leading xs) [])) (x ∷ xs) ≡ cond b (x ∷ leading xs) []
-    go true ih = ap (λ (l : List ℕ). x ∷ l) ih
-    go false ih = refl
-
--- the digits end at the first byte that is none
-lead_long : (t : List ℕ) → length (leading t) ≡ position_or_len (λ x. not (is_digit x)) t
-unfolding leading
-lead_long t = is_position_or_len (λ l. length (leading l)) (λ x. not (is_digit x)) refl (λ x xs. go (is_digit x) x xs) t
-  where
-    go : (b : Bool) (x : ℕ) (xs : List ℕ) → length (cond b (x ∷ leading xs) []) ≡ cond (not b) 0 (1 + length (leading xs))
-    go true x xs = omega arith
-    go false x xs = refl
-
-pub lead_none : (t : List ℕ) → None ≡ position (λ x. not (is_digit x)) t → length t ≤ length (leading t)
-lead_none t e = go (ltb (position_or_len (λ x. not (is_digit x)) t) (length t)) refl e
-  where
-    go : (b : Bool) → ltb (position_or_len (λ x. not (is_digit x)) t) (length t) ≡ b → None ≡ cond b (Some (position_or_len (λ x. not (is_digit x)) t)) None → length t ≤ length (leading t)
-    go true p q = cc
-    go false p q = omega (arith, lead_long t, ltb-false _ _ p)
-
-pub lead_some : (t : List ℕ) (end : ℕ) → Some end ≡ position (λ x. not (is_digit x)) t → (take end t ≡ leading t) × (length (leading t) < length t)
-lead_some t end e = go (ltb (position_or_len (λ x. not (is_digit x)) t) (length t)) refl e
-  where
-    go : (b : Bool) → ltb (position_or_len (λ x. not (is_digit x)) t) (length t) ≡ b → Some end ≡ cond b (Some (position_or_len (λ x. not (is_digit x)) t)) None
-        → (take end t ≡ leading t) × (length (leading t) < length t)
-    go false p q = cc
-    go true p q =
-        let n : end ≡ length (leading t) = (let m : end ≡ position_or_len (λ x. not (is_digit x)) t = cc in m ∙ sym (lead_long t)) in
-        (ap (λ k. take k t) n ∙ leading_prefix t, omega (arith, lead_long t, ltb-true _ _ p))
-
-pub leading_short : (t : List ℕ) → length (leading t) ≤ length t
-leading_short t = omega (arith, length-take (length (leading t)) t, ap length (leading_prefix t))
-
-pub leading_twice : (t : List ℕ) → leading (leading t) ≡ leading t
-unfolding leading
-leading_twice [] = refl
-leading_twice (x ∷ xs) = go (is_digit x) refl (leading_twice xs)
-  where
-    go : (b : Bool) → is_digit x ≡ b → leading (leading xs) ≡ leading xs → leading (cond b (x ∷ leading xs) []) ≡ cond b (x ∷ leading xs) []
-    go true e ih = rw (e, ih)
-    go false e ih = refl
-
 -- ---- what a neighbour offers, by the ways out of the code
-pub offer_whole : (t : List ℕ) → length t ≤ length (leading t) → offer_of t ≡ []
-unfolding offer_of
-offer_whole t h = rw (eq-eqb (length (leading t)) (length t) (omega (arith, leading_short t))) (go (forbids t))
-  where
-    go : (b : Bool) → ◌≡◌ {A = List ℕ} (cond b [] []) []
-    go true = refl
-    go false = refl
+-- nothing has no value
+pub no_value : spelled_value [] ≡ None
+unfolding spelled_value is_ratio duration_of same_bytes counts digits
+no_value = refl
 
-pub offer_forbids : (t : List ℕ) → forbids t ≡ true → offer_of t ≡ []
-unfolding offer_of
-offer_forbids t h = rw h
+no_byte : is_number [] ≡ false
+unfolding within
+no_byte = refl
 
-pub offer_none : (t : List ℕ) → duration_of (leading t) ≡ None → offer_of t ≡ []
+offer_none : (t : List ℕ) → spelled_value (leading t) ≡ None → offer_of t ≡ []
 unfolding offer_of
-offer_none t h = rw h (go (forbids t) (eqb (length (leading t)) (length t)))
+offer_none t h = rw h (go (forbids (drop (length (leading t)) t)) (eqb (length (leading t)) (length t)))
   where
     go : (a b : Bool) → ◌≡◌ {A = List ℕ} (cond a [] (cond b [] [])) []
     go true b = refl
     go false true = refl
     go false false = refl
 
-pub offer_some : (t : List ℕ) (v : Value) → forbids t ≡ false → length (leading t) < length t → duration_of (leading t) ≡ Some v → leading t ≡ offer_of t
-unfolding offer_of
-offer_some t v p q h = rw (p, ne_eqb (length (leading t)) (length t) (λ e. omega arith), h)
+pub offer_nothing : (t : List ℕ) → is_number t ≡ false → offer_of t ≡ []
+offer_nothing t e = offer_none t (ap spelled_value (leading_none t e) ∙ no_value)
 
--- no digits have no value
-pub no_value : duration_of [] ≡ None
-unfolding duration_of same_bytes counts digits
-no_value = refl
+-- a text by its first byte
+pub no_first : (t : List ℕ) → None ≡ slice_get t 0 → offer_of t ≡ []
+no_first [] h = offer_nothing [] no_byte
+no_first (x ∷ xs) h = cc
 
-pub offered : (t : List ℕ) (v : Value) → duration_of (leading t) ≡ Some v → Offered (leading t)
-offered t v h = record {
-  some = go (leading t) h;
-  digits = leading_twice t;
-  valued = rw h;
-}
-  where
-    go : (l : List ℕ) → duration_of l ≡ Some v → length l ≡ 0 → ⊥
-    go [] e z = let n : None ≡ Some v = sym no_value ∙ e in cc
-    go (x ∷ l) e z = omega arith
+pub no_digit : (t : List ℕ) {x : ℕ} → Some x ≡ slice_get t 0 → is_digit x ≡ false → offer_of t ≡ []
+no_digit [] h n = cc
+no_digit (y ∷ t) {x} h n = let e : x ≡ y = cc in offer_nothing (y ∷ t) (ap is_digit (sym e) ∙ n)
 
-offer_nothing : (t : List ℕ) → leading t ≡ [] → offer_of t ≡ []
-offer_nothing t e = offer_none t (ap duration_of e ∙ no_value)
+-- the length at its front, and what is behind
+pub record Led (t bytes rest : List ℕ) : Type 0 where
+  pub front : bytes ≡ leading t
+  pub back : rest ≡ drop (length (leading t)) t
+  pub all : length rest + length (leading t) ≡ length t
+
+module _ (t : List ℕ) {x : ℕ} (e : Some x ≡ slice_get t 0) (d : is_digit x ≡ true) where
+  pub piece_inside : first_piece t ≤ length t
+  piece_inside = (piece_low t (some t e)).1
+    where
+      some : (t : List ℕ) → Some x ≡ slice_get t 0 → 0 < length t
+      some [] e = cc
+      some (y ∷ t) e = omega arith
+
+  pub led : {k : ℕ} {bytes rest : List ℕ} → k ≡ 0 + first_piece t → bytes ≡ take k t → rest ≡ drop k t → length bytes ≡ k → length rest + k ≡ length t → Led t bytes rest
+  led {k} {bytes} {rest} p q r m n =
+      let f : k ≡ first_piece t = omega arith in
+      let l : bytes ≡ leading t = q ∙ ap (λ (j : ℕ). take j t) f ∙ sym (leading_some t (digit t e)) in
+      let s : length (leading t) ≡ k = ap length (sym l) ∙ m in
+      record { front = l; back = r ∙ ap (λ (j : ℕ). drop j t) (sym s); all = omega arith }
+    where
+      digit : (t : List ℕ) → Some x ≡ slice_get t 0 → is_number t ≡ true
+      digit [] e = cc
+      digit (y ∷ t) e = let z : x ≡ y = cc in ap is_digit (sym z) ∙ d
+
+module _ {t bytes rest : List ℕ} (l : Led t bytes rest) where
+  pub offer_whole : length rest ≡ 0 → offer_of t ≡ []
+  unfolding offer_of
+  offer_whole h = rw (eq-eqb (length (leading t)) (length t) (omega (arith, l.all))) (go (forbids (drop (length (leading t)) t)))
+    where
+      go : (b : Bool) → ◌≡◌ {A = List ℕ} (cond b [] []) []
+      go true = refl
+      go false = refl
+
+  pub offer_forbids : forbids rest ≡ true → offer_of t ≡ []
+  unfolding offer_of
+  offer_forbids h = rw (ap forbids (sym l.back) ∙ h)
+
+  pub offer_valueless : spelled_value bytes ≡ None → offer_of t ≡ []
+  offer_valueless h = offer_none t (ap spelled_value (sym l.front) ∙ h)
+
+  module _ {v : Value} (h : spelled_value bytes ≡ Some v) where
+    pub offer_some : forbids rest ≡ false → (length rest ≡ 0 → ⊥) → bytes ≡ offer_of t
+    unfolding offer_of
+    offer_some p q = l.front ∙ sym (rw (ap forbids (sym l.back) ∙ p, ne_eqb (length (leading t)) (length t) (λ e. q (omega (arith, l.all))), ap spelled_value (sym l.front) ∙ h))
+
+    pub offered : Offered bytes
+    offered = record {
+      some = go bytes h;
+      digits = ap leading l.front ∙ leading_twice t ∙ sym l.front;
+      valued = rw h;
+    }
+      where
+        go : (b : List ℕ) → spelled_value b ≡ Some v → length b ≡ 0 → ⊥
+        go [] e z = let n : None ≡ Some v = sym no_value ∙ e in cc
+        go (x ∷ b) e z = omega arith
 
 -- a bare token begins with a letter
 pub bare_offers : (t : List ℕ) → is_bare t ≡ true → offer_of t ≡ []
-unfolding is_bare leading
+unfolding is_bare
 bare_offers [] b = absurd (false≢true b)
 bare_offers (x ∷ xs) b =
     let l : is_letter x ≡ true = (both _ _ b).0 in
-    offer_nothing (x ∷ xs) (rw (letter_no_digit x l))
+    offer_nothing (x ∷ xs) (letter_no_digit x l)

@@ -14,7 +14,9 @@ use Rattle.pitch.specs.Pitch.{altered_by}
 use Rattle.duration.specs.declared.Value.{Value}
 use Rattle.items.specs.declared.Item.{Item}
 use Rattle.items.specs.declared.Item.TheVariants.{Digits, Letters, Mark}
-use Rattle.token.specs.Token.{bad_length, given_by, up_to_blank, first_sub, is_silent, given_in, marks, count_of, any_of, grace_by, grace_from, articulation, articulations_in, heard, passes, signifiers}
+use Rattle.token.specs.declared.scan.Before.{Before}
+use Rattle.token.specs.declared.scan.Before.TheVariants.{Nothing, Right, Further, Ratio}
+use Rattle.token.specs.Token.{is_nothing, passed, bad_length, given_by, up_to_blank, first_sub, is_silent, given_in, marks, count_of, any_of, grace_by, grace_from, articulation, articulations_in, heard, passes, signifiers}
 use Rattle.token.specs.declared.pitches.Tone.{Tone}
 use Rattle.std.specs.Prelude.{Option, Some, None}
 use Rattle.plain.specs.Usual.{unknown_bytes, mark_bytes, all_in, carried, Said, said_by}
@@ -34,24 +36,33 @@ abbrev pub differs : ℕ → ℕ → Bool
 differs b x = not (eqb x b)
 
 -- ---- lengths
-pub bad_marks : (had : Bool) (xs : List ℕ) (is : List Item) → each (differs 37) xs ≡ true → ((b : Bool) → bad_length had b is ≡ false)
-    → (b : Bool) → bad_length had b (marked xs is) ≡ false
-unfolding bad_length
-bad_marks had [] is e h b = h b
-bad_marks had (x ∷ xs) is e h b =
-    rw (not-true (eqb x 37) (each_head (differs 37) x xs e)) (bad_marks had xs is (each_tail (differs 37) x xs e) h false)
+passed_nothing : (b : Before) → is_nothing (passed b) ≡ is_nothing b
+passed_nothing Nothing = refl
+passed_nothing Right = refl
+passed_nothing Further = refl
+passed_nothing Ratio = refl
 
-pub bad_digits : (v : Option Value) (is : List Item) → bad_length true true is ≡ false → (b : Bool) → bad_length false b (Digits v ∷ is) ≡ false
-unfolding bad_length
-bad_digits v is h b = h
+-- no bad length among items that no length stands before in their sub-token, or (false) that one does
+abbrev pub Good : Bool → List Item → Type 0
+Good none is = (begun : Bool) (b : Before) → is_nothing b ≡ none → bad_length false begun b is ≡ false
 
-pub bad_letters : (c n : ℕ) (is : List Item) → ((b : Bool) → bad_length true b is ≡ false) → (b : Bool) → bad_length true b (Letters c n ∷ is) ≡ false
+pub bad_marks : (none : Bool) (xs : List ℕ) (is : List Item) → each (differs 37) xs ≡ true → Good none is → Good none (marked xs is)
 unfolding bad_length
-bad_letters c n is h b = h false
+bad_marks none [] is e h = h
+bad_marks none (x ∷ xs) is e h = λ begun b q.
+    rw (not-true (eqb x 37) (each_head (differs 37) x xs e)) (bad_marks none xs is (each_tail (differs 37) x xs e) h true (passed b) (passed_nothing b ∙ q))
 
-pub bad_none : (had b : Bool) → bad_length had b [] ≡ false
+pub bad_digits : (v : Option Value) (is : List Item) → Good false is → Good true (Digits v ∷ is)
 unfolding bad_length
-bad_none had b = refl
+bad_digits v is h = λ begun b q. rw q (h true Right refl)
+
+pub bad_letters : (c n : ℕ) (is : List Item) → Good false is → Good false (Letters c n ∷ is)
+unfolding bad_length
+bad_letters c n is h = λ begun b q. h true (passed b) (passed_nothing b ∙ q)
+
+pub bad_none : Good false []
+unfolding bad_length
+bad_none = λ begun b q. refl
 
 -- ---- the first sub-token
 pub up_marks : (xs : List ℕ) (is : List Item) → up_to_blank (marked xs is) ≡ marked xs (up_to_blank is)
@@ -215,6 +226,10 @@ unfolding signifiers
 signifiers_marks sounding [] is e = refl
 signifiers_marks sounding (x ∷ xs) is e =
     rw (each_head (passes sounding) x xs e) (signifiers_marks sounding xs is (each_tail (passes sounding) x xs e))
+
+pub signifiers_digits : (v : Option Value) (is : List Item) → signifiers false (Digits v ∷ is) ≡ signifiers false is
+unfolding signifiers
+signifiers_digits v is = refl
 
 -- marks none of which is unknown
 pub not_unknown : (sounding : Bool) → each (λ x. passes sounding x || contains x unknown_bytes) mark_bytes ≡ true → (xs : List ℕ) → all_in mark_bytes xs ≡ true

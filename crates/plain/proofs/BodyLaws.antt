@@ -11,10 +11,10 @@ use Rattle.token.proofs.SignifierLaws.{no_signifiers}
 use Rattle.notation.specs.Bytes.{contains}
 use Rattle.pitch.specs.Pitch.{within, pitch_of, altered_by}
 use Rattle.pitch.specs.declared.Pitch.{Pitch}
-use Rattle.items.specs.Items.{is_digit, is_letter, runs, items_of, items}
+use Rattle.items.specs.Items.{is_digit, is_letter, runs, pieces, items_of, items}
 use Rattle.items.specs.declared.Item.{Item}
 use Rattle.items.specs.declared.Item.TheVariants.{Letters}
-use Rattle.token.specs.Token.{bad_length, up_to_blank, marks, count_of, grace_from, begun, heard, any_of, passes, signifiers}
+use Rattle.token.specs.Token.{up_to_blank, marks, count_of, grace_from, begun, heard, any_of, passes, signifiers}
 use Rattle.token.specs.declared.pitches.Tone.{Tone}
 use Rattle.std.specs.Prelude.{Option, Some, None, unwrap_or}
 use Rattle.std.specs.Option.{is_none}
@@ -24,7 +24,7 @@ use Rattle.plain.specs.Usual.{unknown_bytes, mark_bytes, sign_bytes, all_in, car
 use Rattle.plain.proofs.PieceLaws.{carried_append}
 use Rattle.plain.proofs.ByteLaws.{each, each_in}
 use Rattle.plain.proofs.ItemLaws.{single, marked, begins, items_marks, items_letters, letter_of, not_letter}
-use Rattle.plain.proofs.AspectLaws.{each_head, each_tail, differs, graceless, natural, bad_marks, bad_letters, bad_none, up_only, up_letters, marks_only, marks_letters, count_none, contains_none, grace_none, still_over, heard_before, heard_behind, natural_over, not_unknown, signifiers_marks}
+use Rattle.plain.proofs.AspectLaws.{each_head, each_tail, differs, graceless, natural, Good, bad_marks, bad_letters, bad_none, up_only, up_letters, marks_only, marks_letters, count_none, contains_none, grace_none, still_over, heard_before, heard_behind, natural_over, not_unknown, signifiers_marks}
 
 -- the sound and the marks of a token, its items, and what is known of them
 pub record Body (bytes : List ℕ) (rest : Bool) (t : Tone) (post : List ℕ) : Type 0 where
@@ -32,9 +32,10 @@ pub record Body (bytes : List ℕ) (rest : Bool) (t : Tone) (post : List ℕ) : 
   pub bs : List ℕ
   pub same : items (bytes ++ post) ≡ body
   pub undigit : begins is_digit (bytes ++ post) ≡ false
+  pub unpercent : begins (λ x. eqb x 37) (bytes ++ post) ≡ false
   pub whole : up_to_blank body ≡ body
   pub written : marks body ≡ bs
-  pub good : (b : Bool) → bad_length true b body ≡ false
+  pub good : Good false body
   pub tones : heard None body ≡ cond rest [] (t ∷ [])
   pub unknown : any_of unknown_bytes post ≡ false → signifiers false body ≡ []
   pub undotted : count_of 46 bs ≡ 0
@@ -45,7 +46,7 @@ pub record Body (bytes : List ℕ) (rest : Bool) (t : Tone) (post : List ℕ) : 
   pub tabless : each (differs 9) (bytes ++ post) ≡ true
 
 pub items_only : (xs : List ℕ) → each single xs ≡ true → items xs ≡ marked xs []
-unfolding runs items_of
+unfolding runs pieces items_of
 items_only xs e = ap items (sym (append-nil xs)) ∙ items_marks xs [] e
 
 over : {A : Type 0} (f : List ℕ → A) (xs : List ℕ) → f (xs ++ []) ≡ f xs
@@ -79,9 +80,10 @@ module _ (post : List ℕ) (m : all_in mark_bytes post ≡ true) where
         bs = 114 ∷ post;
         same = items_only (114 ∷ post) all;
         undigit = refl;
+        unpercent = refl;
         whole = up_only (114 ∷ post);
         written = marks_only (114 ∷ post);
-        good = bad_marks true (114 ∷ post) [] (each_in (differs 37) mark_bytes post refl m) (bad_none true);
+        good = bad_marks false (114 ∷ post) [] (each_in (differs 37) mark_bytes post refl m) bad_none;
         tones = heard_before (114 ∷ post) [];
         unknown = λ o. signifiers_marks false (114 ∷ post) [] (not_unknown false refl post m o) ∙ no_signifiers false;
         undotted = count_empty 46 (114 ∷ post) (each_in (differs 46) mark_bytes post refl m);
@@ -114,9 +116,8 @@ each_copy test c (x ∷ xs) p e =
     let h : test x ≡ true = ap test (eqb-true x c (each_head (λ y. eqb y c) x xs e)) ∙ p in
     rw h (each_copy test c xs p (each_tail (λ y. eqb y c) x xs e))
 
-no_tab : (c : ℕ) → is_letter c ≡ true → differs 9 c ≡ true
-unfolding is_letter within
-no_tab c l = rw (ne_eqb c 9 (λ e. not_both (sym (ap is_letter e) ∙ l) refl))
+no_letter : (b : ℕ) → is_letter b ≡ false → (c : ℕ) → is_letter c ≡ true → eqb c b ≡ false
+no_letter b n c l = ne_eqb c b (λ e. not_both (sym (ap is_letter e) ∙ l) n)
 
 module _ (c : ℕ) (cs signs post : List ℕ) (t : Tone) (same : each (λ x. eqb x c) cs ≡ true) (place : pitch_of c (suc (length cs)) ≡ Some (record { step = t.step; octave = t.octave })) (signed : all_in sign_bytes signs ≡ true) (alter : carried altered_by 128 signs ≡ t.alter) (m : all_in mark_bytes post ≡ true) where
   both : (test : ℕ → Bool) → each test sign_bytes ≡ true → each test mark_bytes ≡ true → each test (signs ++ post) ≡ true
@@ -154,9 +155,10 @@ module _ (c : ℕ) (cs signs post : List ℕ) (t : Tone) (same : each (λ x. eqb
             ∙ items_letters c cs tail (letter_no_digit c letter) letter same (begins_each (λ x. eqb x c) tail apart)
             ∙ ap (λ (is : List Item). Letters c n ∷ is) (items_only tail (both single refl refl));
         undigit = letter_no_digit c letter;
+        unpercent = no_letter 37 refl c letter;
         whole = up_letters c n (marked tail []) ∙ ap (λ (is : List Item). Letters c n ∷ is) (up_only tail);
         written = marks_letters c n (marked tail []) ∙ marks_only tail;
-        good = bad_letters c n (marked tail []) (bad_marks true tail [] (both (differs 37) refl refl) (bad_none true));
+        good = bad_letters c n (marked tail []) (bad_marks false tail [] (both (differs 37) refl refl) (bad_none));
         tones =
             ap (λ (p : Option Pitch). heard (begun None p) (marked tail [])) place
             ∙ heard_behind (record { step = t.step; octave = t.octave; alter = 128 }) tail
@@ -167,7 +169,7 @@ module _ (c : ℕ) (cs signs post : List ℕ) (t : Tone) (same : each (λ x. eqb
         graces = grace_empty tail (both graceless refl refl);
         marks_say = λ s. carried_append said_by s signs post ∙ ap (λ (u : Said). carried said_by u post) (still_over s signs (each_in (λ b. not (contains b mark_bytes)) sign_bytes signs refl signed));
         bytes_say = λ s. carried_append said_by s ((c ∷ cs) ++ signs) post ∙ ap (λ (u : Said). carried said_by u post) (quiet s);
-        tabless = each_join (differs 9) ((c ∷ cs) ++ signs) post (kept (differs 9) (no_tab c letter) refl) (each_in (differs 9) mark_bytes post refl m);
+        tabless = each_join (differs 9) ((c ∷ cs) ++ signs) post (kept (differs 9) (rw (no_letter 9 refl c letter)) refl) (each_in (differs 9) mark_bytes post refl m);
       }
 
 body_run : (c : ℕ) (run signs post : List ℕ) (t : Tone) → each (λ x. eqb x c) run ≡ true → pitch_of c (length run) ≡ Some (record { step = t.step; octave = t.octave })

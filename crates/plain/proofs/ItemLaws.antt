@@ -11,11 +11,14 @@ use Rattle.pitch.specs.Pitch.{within, pitch_of}
 use Rattle.pitch.specs.declared.Pitch.{Pitch}
 use Rattle.std.specs.Prelude.{Option, Some, None}
 use Rattle.duration.specs.Duration.{duration_of}
-use Rattle.items.specs.Items.{is_digit, is_letter, joins, into, runs, item_of, items_of, items}
+use Rattle.duration.specs.Ratio.{is_ratio}
+use Rattle.items.specs.Items.{is_digit, is_letter, joins, into, runs, is_number, pieces, goes_on, item_of, items_of, items}
 use Rattle.items.specs.declared.Item.{Item}
 use Rattle.items.specs.declared.Item.TheVariants.{Digits, Letters, Mark}
 use Rattle.plain.proofs.ByteLaws.{each, among}
 use Rattle.slices.proofs.TestLaws.{clash, and_left, and_right, not_both}
+use Rattle.items.proofs.ItemLaws.{length_digits}
+use Rattle.items.proofs.PieceLaws.{Pieces, no_percent, pieces_behind}
 use Rattle.items.proofs.NextLaws.{digit_joins}
 
 -- ---- the first byte of a run
@@ -63,14 +66,30 @@ run_of test join x (y ∷ ys) rest p q e =
     ap (into x) (run_of test join y ys rest u (and_right (test y) (each test ys) q) e)
     ∙ ap (λ (t : Bool). cond t ((x ∷ y ∷ ys) ∷ runs rest) ((x ∷ []) ∷ (y ∷ ys) ∷ runs rest)) (join x y p ∙ u)
 
--- ---- digits
+-- a first run with no ratio behind it is an item
+items_run : (r rest : List ℕ) → runs (r ++ rest) ≡ r ∷ runs rest → (is_number r && goes_on rest) ≡ false → items (r ++ rest) ≡ item_of r ∷ items rest
+unfolding items_of
+items_run r rest e t = ap (λ (rs : List (List ℕ)). items_of (pieces rs)) e ∙ ap items_of (pieces_behind r rest ∙ ap (λ (b : Bool). Pieces b r rest) t)
 
-pub items_digits : (d : ℕ) (ds rest : List ℕ) → each is_digit (d ∷ ds) ≡ true → begins is_digit rest ≡ false
+-- ---- digits
+no_ratio : (ds : List ℕ) → each is_digit ds ≡ true → is_ratio ds ≡ false
+unfolding each is_ratio
+no_ratio [] e = refl
+no_ratio (d ∷ ds) e = rw (no_percent d (and_left (is_digit d) (each is_digit ds) e)) (no_ratio ds (and_right (is_digit d) (each is_digit ds) e))
+
+ends_here : (l : List ℕ) → begins (λ x. eqb x 37) l ≡ false → goes_on l ≡ false
+unfolding goes_on
+ends_here [] e = refl
+ends_here (x ∷ []) e = refl
+ends_here (x ∷ y ∷ ys) e = rw e
+
+pub items_digits : (d : ℕ) (ds rest : List ℕ) → each is_digit (d ∷ ds) ≡ true → begins is_digit rest ≡ false → begins (λ x. eqb x 37) rest ≡ false
     → items ((d ∷ ds) ++ rest) ≡ Digits (duration_of (d ∷ ds)) ∷ items rest
-unfolding items_of item_of each
-items_digits d ds rest p e =
+unfolding item_of each
+items_digits d ds rest p e n =
     let u : is_digit d ≡ true = and_left (is_digit d) (each is_digit ds) p in
-    ap items_of (run_of is_digit digit_joins d ds rest u (and_right (is_digit d) (each is_digit ds) p) e) ∙ rw u
+    items_run (d ∷ ds) rest (run_of is_digit digit_joins d ds rest u (and_right (is_digit d) (each is_digit ds) p) e) (rw (u, ends_here rest n))
+    ∙ rw (u, ← length_digits (d ∷ ds) (no_ratio (d ∷ ds) p) refl)
 
 -- ---- a run of one letter
 letter_join : (c : ℕ) → is_digit c ≡ false → is_letter c ≡ true → (a b : ℕ) → eqb a c ≡ true → joins a b ≡ eqb b c
@@ -79,9 +98,9 @@ letter_join c d l a b e = rw (eqb-true a c e, d, l)
 
 pub items_letters : (c : ℕ) (cs rest : List ℕ) → is_digit c ≡ false → is_letter c ≡ true → each (λ x. eqb x c) cs ≡ true
     → begins (λ x. eqb x c) rest ≡ false → items ((c ∷ cs) ++ rest) ≡ Letters c (suc (length cs)) ∷ items rest
-unfolding items_of item_of
+unfolding item_of
 items_letters c cs rest d l p e =
-    ap items_of (run_of (λ x. eqb x c) (letter_join c d l) c cs rest (eq-eqb c c refl) p e) ∙ rw (d, l)
+    items_run (c ∷ cs) rest (run_of (λ x. eqb x c) (letter_join c d l) c cs rest (eq-eqb c c refl) p e) (rw d) ∙ rw (d, l)
 
 -- ---- single bytes
 unfoldable pub single : ℕ → Bool
@@ -97,14 +116,14 @@ begins_none [] = refl
 begins_none (y ∷ ys) = refl
 
 item_mark : (x : ℕ) (rest : List ℕ) → single x ≡ true → items (x ∷ rest) ≡ Mark x ∷ items rest
-unfolding items_of item_of single joins
+unfolding item_of single joins
 item_mark x rest e =
     let d : is_digit x ≡ false = not-true (is_digit x) (and_left (not (is_digit x)) (not (is_letter x) && not (eqb x 32)) e) in
     let m : (not (is_letter x) && not (eqb x 32)) ≡ true = and_right (not (is_digit x)) (not (is_letter x) && not (eqb x 32)) e in
     let l : is_letter x ≡ false = not-true (is_letter x) (and_left (not (is_letter x)) (not (eqb x 32)) m) in
     let s : eqb x 32 ≡ false = not-true (eqb x 32) (and_right (not (is_letter x)) (not (eqb x 32)) m) in
     let j : (y : ℕ) → joins x y ≡ false = λ y. rw (d, l) in
-    ap items_of (alone x rest (begins_same (joins x) (λ y. false) j rest ∙ begins_none rest)) ∙ rw (d, l, s)
+    items_run (x ∷ []) rest (alone x rest (begins_same (joins x) (λ y. false) j rest ∙ begins_none rest)) (rw d) ∙ rw (d, l, s)
 
 pub items_marks : (xs rest : List ℕ) → each single xs ≡ true → items (xs ++ rest) ≡ marked xs (items rest)
 unfolding each

@@ -10,7 +10,6 @@ use lib.ListN.{length}
 use borrow.Author.Tests.{not-true}
 use Rattle.slices.specs.Ascii.{ascii}
 use Rattle.slices.specs.Compare.{same_bytes}
-use Rattle.token.proofs.SignifierLaws.{past_digits}
 use Rattle.lines.specs.Tokens.{is_null}
 use Rattle.notation.specs.Bytes.{contains}
 use Rattle.notation.specs.Beam.{letters_of}
@@ -20,7 +19,8 @@ use Rattle.duration.specs.declared.Value.{Value}
 use Rattle.items.specs.Items.{is_digit, is_letter, items}
 use Rattle.items.specs.declared.Item.{Item}
 use Rattle.items.specs.declared.Item.TheVariants.{Digits}
-use Rattle.token.specs.Token.{bad_length, given_by, first_sub, given_in, marks, count_of, dots_of, rest_of, any_of, grace_from, articulations_in, heard, passes, signifiers}
+use Rattle.token.specs.declared.scan.Before.TheVariants.{Nothing}
+use Rattle.token.specs.Token.{is_bad, given_by, first_sub, given_in, marks, count_of, dots_of, rest_of, any_of, grace_from, articulations_in, heard, passes, signifiers}
 use Rattle.token.specs.Scan.{scan_items, scan_of}
 use Rattle.token.specs.Outcome.{outcome_of, noted, note_of}
 use Rattle.token.specs.declared.scan.Scan.{Scan}
@@ -35,7 +35,7 @@ use Rattle.plain.specs.declared.Valued.{Valued}
 use Rattle.plain.proofs.PieceLaws.{carried_append}
 use Rattle.plain.proofs.ByteLaws.{each, each_in, or_left, or_right}
 use Rattle.plain.proofs.ItemLaws.{single, marked, begins, begins_over, items_marks, items_digits}
-use Rattle.plain.proofs.AspectLaws.{each_head, differs, graceless, bad_marks, bad_digits, up_marks, first_marks, silent_marks, given_marks, marks_marks, marks_digits, count_none, count_all, contains_none, grace_none, still_over, says, heard_before, heard_digits, not_unknown, signifiers_marks}
+use Rattle.plain.proofs.AspectLaws.{each_head, differs, graceless, bad_marks, bad_digits, up_marks, first_marks, silent_marks, given_marks, marks_marks, marks_digits, count_none, count_all, contains_none, grace_none, still_over, says, heard_before, heard_digits, not_unknown, signifiers_marks, signifiers_digits}
 use Rattle.plain.proofs.BodyLaws.{Body, each_join}
 
 -- the scan of such a token, with so many signifiers
@@ -88,11 +88,11 @@ module _ (pre ds dots bytes post : List ℕ) (rest : Bool) (t : Tone) (p : all_i
   abbrev ms : List ℕ
   ms = pre ++ (dots ++ b.bs)
 
-  digits_first : (ds rest : List ℕ) → all_in digit_bytes ds ≡ true → 0 < length ds → begins is_digit rest ≡ false
+  digits_first : (ds rest : List ℕ) → all_in digit_bytes ds ≡ true → 0 < length ds → begins is_digit rest ≡ false → begins (λ x. eqb x 37) rest ≡ false
       → items (ds ++ rest) ≡ Digits (duration_of ds) ∷ items rest
   unfolding each within contains
-  digits_first [] rest q some e = absurd (not-suc-le-zero some)
-  digits_first (d ∷ ds) rest q some e = items_digits d ds rest (each_in is_digit digit_bytes (d ∷ ds) refl q) e
+  digits_first [] rest q some e n = absurd (not-suc-le-zero some)
+  digits_first (d ∷ ds) rest q some e n = items_digits d ds rest (each_in is_digit digit_bytes (d ∷ ds) refl q) e n
 
   items_are : items token ≡ is
   unfolding each single is_letter within contains
@@ -101,6 +101,7 @@ module _ (pre ds dots bytes post : List ℕ) (rest : Bool) (t : Tone) (p : all_i
       ∙ ap (marked pre)
       (digits_first ds (dots ++ (bytes ++ post)) q some
       (begins_over is_digit dots (bytes ++ post) (each_in (λ x. not (is_digit x)) (46 ∷ []) dots refl o) b.undigit)
+      (begins_over (λ x. eqb x 37) dots (bytes ++ post) (each_in (differs 37) (46 ∷ []) dots refl o) b.unpercent)
       ∙ ap (λ (r : List Item). Digits (duration_of ds) ∷ r)
       (items_marks dots (bytes ++ post) (each_in single (46 ∷ []) dots refl o) ∙ ap (marked dots) b.same))
 
@@ -113,12 +114,12 @@ module _ (pre ds dots bytes post : List ℕ) (rest : Bool) (t : Tone) (p : all_i
   first_is : first_sub is ≡ is
   first_is = first_marks pre (duration_of ds) (marked dots b.body) (up_marks dots b.body ∙ ap (marked dots) b.whole)
 
-  good : bad_length false false is ≡ false
+  good : is_bad is ≡ false
   unfolding each
   good =
-      bad_marks false pre (Digits (duration_of ds) ∷ marked dots b.body) (each_in (differs 37) mark_bytes pre refl p)
+      bad_marks true pre (Digits (duration_of ds) ∷ marked dots b.body) (each_in (differs 37) mark_bytes pre refl p)
       (bad_digits (duration_of ds) (marked dots b.body)
-      (bad_marks true dots b.body (each_in (differs 37) (46 ∷ []) dots refl o) b.good true)) false
+      (bad_marks false dots b.body (each_in (differs 37) (46 ∷ []) dots refl o) b.good)) false Nothing refl
 
   dotted : dots_of is ≡ length dots
   unfolding dots_of each
@@ -159,7 +160,7 @@ module _ (pre ds dots bytes post : List ℕ) (rest : Bool) (t : Tone) (p : all_i
   unfolding each passes contains
   none_unknown e k =
       signifiers_marks false pre (Digits (duration_of ds) ∷ marked dots b.body) (not_unknown false refl pre p e)
-      ∙ past_digits false (duration_of ds) (marked dots b.body)
+      ∙ signifiers_digits (duration_of ds) (marked dots b.body)
       ∙ signifiers_marks false dots b.body (each_in (passes false) (46 ∷ []) dots refl o)
       ∙ b.unknown k
 

@@ -8,7 +8,7 @@ use lib.Dec.{eqb, ltb, lit≤}
 use borrow.Author.Tests.{ltb-true, ltb-false}
 use Rattle.notation.specs.Bytes.{contains}
 use Rattle.items.specs.declared.Item.{Item}
-use Rattle.items.specs.declared.Item.TheVariants.{Digits, Letters, Blank, Mark}
+use Rattle.items.specs.declared.Item.TheVariants.{Digits, Ratio, Letters, Blank, Mark}
 use Rattle.duration.specs.declared.Value.{Value}
 use Rattle.token.specs.Token.{given_by, up_to_blank, first_sub, is_silent, given_in, marks, count_of, dots_of, rest_of}
 use Rattle.scan.specs.Steps.{or_given, dots_by, step_first}
@@ -51,6 +51,7 @@ record Ends (f : First) (g : Given) (d : ℕ) (r : Bool) (sub : List Item) : Typ
 behind : (g : Given) (d : ℕ) (r : Bool) (is : List Item) → fold step_first (state true true g d r) is ≡ state true true g d r
 behind g d r [] = refl
 behind g d r (Digits v ∷ is) = behind g d r is
+behind g d r (Ratio v ∷ is) = behind g d r is
 behind g d r (Letters c n ∷ is) = behind g d r is
 behind g d r (Blank ∷ is) = behind g d r is
 behind g d r (Mark b ∷ is) = behind g d r is
@@ -64,6 +65,9 @@ inside : (g : Given) (d : ℕ) (r : Bool) (is : List Item) → Ends (fold step_f
 unfolding given_in marks contains dots_from up_to_blank
 inside g d r [] = none g d r (state true false g d r) refl refl refl refl
 inside g d r (Digits v ∷ is) =
+    let e = inside (or_given g v) d r is in
+    record { begun = e.begun; given = e.given ∙ or_digits g _ v; dots = e.dots; rest = e.rest }
+inside g d r (Ratio v ∷ is) =
     let e = inside (or_given g v) d r is in
     record { begun = e.begun; given = e.given ∙ or_digits g _ v; dots = e.dots; rest = e.rest }
 inside g d r (Letters c n ∷ is) =
@@ -108,6 +112,7 @@ pub before : (is : List Item) → Starts (fold step_first (state false false Not
 unfolding is_silent first_sub up_to_blank given_in dots_of rest_of marks count_of contains
 before [] = record { silent = refl; given = refl; dots = refl; rest = refl }
 before (Digits v ∷ is) = started _ (Digits v) is _ refl refl (inside Nothing 0 false (Digits v ∷ is))
+before (Ratio v ∷ is) = started _ (Ratio v) is _ refl refl (inside Nothing 0 false (Ratio v ∷ is))
 before (Letters c n ∷ is) = started _ (Letters c n) is _ refl refl (inside Nothing 0 false (Letters c n ∷ is))
 before (Blank ∷ is) =
     let e = before is in

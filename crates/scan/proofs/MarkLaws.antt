@@ -9,7 +9,7 @@ use lib.ListN.{length}
 use Rattle.slices.specs.Ascii.{ascii}
 use Rattle.notation.specs.Bytes.{contains}
 use Rattle.items.specs.declared.Item.{Item}
-use Rattle.items.specs.declared.Item.TheVariants.{Digits, Letters, Blank, Mark}
+use Rattle.items.specs.declared.Item.TheVariants.{Digits, Ratio, Letters, Blank, Mark}
 use Rattle.token.specs.Token.{marks, any_of, grace_from, articulation, articulations_in}
 use Rattle.scan.specs.Steps.{step_marks}
 use Rattle.scan.specs.declared.Marks.{Marks}
@@ -39,6 +39,7 @@ marks_fold m [] =
       articulations = omega arith;
     }
 marks_fold m (Digits v ∷ is) = marks_fold m is
+marks_fold m (Ratio v ∷ is) = marks_fold m is
 marks_fold m (Letters c n ∷ is) = marks_fold m is
 marks_fold m (Blank ∷ is) = marks_fold m is
 marks_fold m (Mark b ∷ is) =
@@ -59,6 +60,7 @@ few false n = omega arith
 
 pub slow_marks : (m : Marks) (i : Item) → (step_marks m i).articulations ≤ m.articulations + 1
 slow_marks m (Digits v) = omega arith
+slow_marks m (Ratio v) = omega arith
 slow_marks m (Letters c n) = omega arith
 slow_marks m Blank = omega arith
 slow_marks m (Mark b) = few (ltb (articulation b) 5) m.articulations

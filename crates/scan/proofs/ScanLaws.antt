@@ -1,14 +1,18 @@
 -- The loop of the scan: what it keeps, the turn that keeps it, and what it has at the end.
-use mathlib.Core.Path.{◌≡◌, ◌∙◌}
+use mathlib.Core.Path.{◌≡◌, refl, sym, ap, ◌∙◌}
 use Prim.Native.Nat.{ℕ, ◌+◌, ◌≤◌, ◌<◌}
 use native.Mathlib.Omega.{arith}
 use mathlib.Core.List.{List}
-use mathlib.Core.Bool.{false}
-use lib.ListN.{length}
-use Rattle.items.specs.Items.{items, next_item}
+use mathlib.Core.Bool.{Bool, true, false, cond}
+use lib.ListN.{length, get_or}
+use Rattle.duration.specs.Ratio.{is_ratio, spelled_value}
+use Rattle.items.specs.Items.{is_digit, length_item, items, next_item}
 use Rattle.items.specs.declared.Item.{Item}
+use Rattle.items.specs.declared.Item.TheVariants.{Digits, Ratio}
 use Rattle.items.specs.declared.Next.{Next}
+use Rattle.items.proofs.NextLaws.{next_length}
 use Rattle.items.proofs.RunLaws.{At, next_at}
+use Rattle.token.specs.declared.scan.Before.TheVariants.{Nothing}
 use Rattle.token.specs.Token.{pitches_of, signifiers_of, articulations_of}
 use Rattle.token.specs.Scan.{scan_items, scan_of}
 use Rattle.scan.specs.Steps.{no_first, no_marks, collected, step_lengths, step_first, step_sounds, step_marks}
@@ -25,10 +29,18 @@ use Rattle.scan.proofs.SoundLaws.{signifiers_fold, pitches_fold, slow}
 use Rattle.scan.proofs.MarkLaws.{marks_fold, slow_marks}
 
 abbrev lengths₀ : Lengths
-lengths₀ = record { had = false; behind = false; bad = false }
+lengths₀ = record { later = false; begun = false; before = Nothing; bad = false }
 
 abbrev sounds₀ : Sounds
 sounds₀ = record { sounding = false; pitches = 0; signifiers = 0 }
+
+-- a length is no sound and no mark
+no_sound : {i : Item} (x : List ℕ) → i ≡ length_item x → (s : Sounds) (m : Marks) → (s ≡ step_sounds s i) × (m ≡ step_marks m i)
+no_sound x e s m = rw e (go (is_ratio x))
+  where
+    go : (t : Bool) → let i = cond t (Ratio (spelled_value x)) (Digits (spelled_value x)) in (s ≡ step_sounds s i) × (m ≡ step_marks m i)
+    go true = (refl, refl)
+    go false = (refl, refl)
 
 pub record Scanning (token : List ℕ) (l : Lengths) (f : First) (s : Sounds) (m : Marks) (i : ℕ) : Type 0 where
   pub high : i ≤ length token
@@ -60,6 +72,12 @@ module _ {token : List ℕ} {l : Lengths} {f : First} {s : Sounds} {m : Marks} {
         signifiers = omega (arith, at.on, inv.signifiers);
         articulations = omega (arith, at.on, inv.articulations);
       }
+
+  pub scan_length : {n : Next} {l' : Lengths} {f' : First} {d : Bool} → i < length token → d ≡ is_digit (get_or token i 0) → d ≡ true → n ≡ next_item token i
+      → l' ≡ step_lengths l n.item → f' ≡ step_first f n.item → Scanning token l' f' s m n.end
+  scan_length h p y e el ef =
+      let q = no_sound _ (ap (λ (x : Next). x.item) (e ∙ sym (next_length token i h refl p y))) s m in
+      scan_turn h e el ef q.0 q.1
 
 -- the four states together are the scan
 together : (is : List Item)

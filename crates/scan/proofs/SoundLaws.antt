@@ -9,7 +9,7 @@ use Rattle.pitch.specs.Pitch.{pitch_of}
 use Rattle.pitch.specs.declared.Pitch.{Pitch}
 use Rattle.std.specs.Prelude.{Option, Some, None}
 use Rattle.items.specs.declared.Item.{Item}
-use Rattle.items.specs.declared.Item.TheVariants.{Digits, Letters, Blank, Mark}
+use Rattle.items.specs.declared.Item.TheVariants.{Digits, Ratio, Letters, Blank, Mark}
 use Rattle.token.specs.Token.{fits, passes, begun, signed, given, heard, signifiers}
 use Rattle.scan.specs.Steps.{step_sounds, with_unknown, sounded}
 use Rattle.scan.specs.declared.Sounds.{Sounds}
@@ -21,6 +21,7 @@ pub signifiers_fold : (s : Sounds) (is : List Item) → (fold step_sounds s is).
 unfolding signifiers
 signifiers_fold s [] = omega arith
 signifiers_fold s (Digits v ∷ is) = signifiers_fold s is
+signifiers_fold s (Ratio v ∷ is) = signifiers_fold s is
 signifiers_fold s (Letters c n ∷ is) = go (fits s.sounding (pitch_of c n)) (signifiers_fold (sounded s) is) (signifiers_fold (with_unknown s 1) is)
   where
     go : (t : Bool) → (fold step_sounds (sounded s) is).signifiers ≡ s.signifiers + length (signifiers true is)
@@ -58,6 +59,7 @@ pub pitches_fold : (p : Option Tone) (n m : ℕ) (is : List Item)
 unfolding heard
 pitches_fold p n m [] = omega (arith, length_given p)
 pitches_fold p n m (Digits v ∷ is) = pitches_fold p n m is
+pitches_fold p n m (Ratio v ∷ is) = pitches_fold p n m is
 pitches_fold p n m (Letters c k ∷ is) =
     run p (pitch_of c k) (λ q a b. pitches_fold q a b is)
   where
@@ -90,6 +92,7 @@ either false s a b p q = q
 
 pub slow : (s : Sounds) (i : Item) → Slow s (step_sounds s i)
 slow s (Digits v) = record { pitches = omega arith; signifiers = omega arith }
+slow s (Ratio v) = record { pitches = omega arith; signifiers = omega arith }
 slow s (Letters c n) =
     either (fits s.sounding (pitch_of c n)) s (sounded s) (with_unknown s 1) (record { pitches = omega arith; signifiers = omega arith }) (record { pitches = omega arith; signifiers = omega arith })
 slow s Blank = record { pitches = omega arith; signifiers = omega arith }

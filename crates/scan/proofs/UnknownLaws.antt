@@ -14,7 +14,9 @@ use Rattle.pitch.specs.Pitch.{within}
 use Rattle.items.specs.Items.{is_digit, is_letter, next_item}
 use Rattle.items.specs.declared.Item.TheVariants.{Mark}
 use Rattle.items.proofs.NextLaws.{next_mark}
-use Rattle.token.specs.Token.{signs, known, passes, is_unknown, grace_by, articulation}
+use Rattle.token.specs.declared.scan.Before.{Before}
+use Rattle.token.specs.declared.scan.Before.TheVariants.{Nothing, Right, Further, Ratio}
+use Rattle.token.specs.Token.{passed, signs, known, passes, is_unknown, grace_by, articulation}
 use Rattle.scan.specs.Steps.{Unknowns, dots_by, inside_first, step_lengths, step_first, step_sounds, step_marks, with_unknown}
 use Rattle.scan.specs.declared.Lengths.{Lengths}
 use Rattle.scan.specs.declared.First.{First}
@@ -32,6 +34,12 @@ unknowns_to {token} {from} {end} first low high each =
     go : (j : ℕ) → from ≤ j → j < end → (t : Bool) → eqb j from ≡ t → is_unknown (get_or token j 0) ≡ true
     go j l u true q = rw (eqb-true j from q) first
     go j l u false q = let ne = eqb-false j from q in each j (omega arith) u
+
+passed_twice : (b : Before) → passed (passed b) ≡ passed b
+passed_twice Nothing = refl
+passed_twice Right = refl
+passed_twice Further = refl
+passed_twice Ratio = refl
 
 -- ---- what such a mark is not
 none : (d l x s k : Bool) → not (d || l || x || s || k) ≡ true → (d ≡ false) × (l ≡ false) × (s ≡ false) × (k ≡ false)
@@ -66,7 +74,7 @@ module _ (b : ℕ) (o : is_unknown b ≡ true) where
 
   quiet_lengths : (l : Lengths) {l' : Lengths} (a : ℕ) → l' ≡ step_lengths l (Mark a) → l' ≡ step_lengths l' (Mark b)
   unfolding contains is_unknown is_letter within
-  quiet_lengths l a e = rw (e, is_not 37 refl)
+  quiet_lengths l a e = rw (e, is_not 37 refl, passed_twice l.before)
 
   settled : (f : First) (t : Bool) (d : ℕ) (r : Bool) → f.over ≡ t
       → cond t f (inside_first f.given d r) ≡ step_first (cond t f (inside_first f.given d r)) (Mark b)

@@ -6,8 +6,7 @@ use Rattle.pitch.specs.Pitch.{pitch_of}
 use Rattle.items.specs.declared.Item.{Item}
 use Rattle.items.specs.declared.Item.TheVariants.{Digits, Ratio, Letters, Blank, Mark}
 use Rattle.duration.specs.declared.Value.{Value}
-use Rattle.token.specs.declared.scan.Before.{Before}
-use Rattle.token.specs.declared.scan.Before.TheVariants.{Nothing as Nothing_before, Right, Further, Ratio as Ratio_before}
+use Rattle.token.specs.declared.scan.Before.TheVariants.{Nothing as Nothing_before, Right, Ratio as Ratio_before}
 use Rattle.token.specs.declared.scan.Given.{Given}
 use Rattle.token.specs.declared.scan.Given.TheVariants.{Nothing, NoValue, Length}
 use Rattle.token.specs.declared.scan.Scan.{Scan}

@@ -20,6 +20,7 @@ use Rattle.items.specs.Items.{is_digit, is_letter, joins, into, runs, is_number,
 use Rattle.items.specs.declared.Item.{Item}
 use Rattle.items.specs.declared.Item.TheVariants.{Digits, Ratio, Letters, Blank, Mark}
 use Rattle.items.proofs.NextLaws.{letter_no_digit}
+use Rattle.items.proofs.PieceLaws.{percent_byte, number_append, three}
 use Rattle.duration.specs.Ratio.{is_ratio, spelled_value}
 use Rattle.token.specs.Token.{up_to_blank, first_sub, marks, rest_of, begun, signed, given, heard}
 use Rattle.token.specs.Outcome.{note_pitches}
@@ -72,7 +73,7 @@ altered natural = natural_sets 128 []
 abbrev run_items : List ℕ → List Item
 run_items token = items_of (runs token)
 
-heard_length : (s : Option Tone) (r : List ℕ) (is : List Item) → heard s (length_item r ∷ is) ≡ heard s is
+pub heard_length : (s : Option Tone) (r : List ℕ) (is : List Item) → heard s (length_item r ∷ is) ≡ heard s is
 unfolding heard
 heard_length s r is = go (is_ratio r)
   where
@@ -90,11 +91,6 @@ unfolding altered_by
 signed_percent None = refl
 signed_percent (Some t) = refl
 
-percent_byte : (p : List ℕ) → is_percent p ≡ true → p ≡ 37 ∷ []
-percent_byte [] e = cc
-percent_byte (x ∷ []) e = ap (λ (y : ℕ). y ∷ []) (eqb-true x 37 e)
-percent_byte (x ∷ y ∷ p) e = let l = eqb-true _ _ (and_parts (eqb (length (x ∷ y ∷ p)) 1) (eqb x 37) e).0 in absurd (omega arith)
-
 heard_percent : (s : Option Tone) (p : List ℕ) (is : List Item) → is_percent p ≡ true → heard s (item_of p ∷ is) ≡ heard s is
 unfolding item_of heard is_letter within
 heard_percent s p is e = rw (percent_byte p e) (ap (λ (u : Option Tone). heard u is) (signed_percent s))
@@ -107,23 +103,6 @@ heard_on (Ratio v) is js e s = e s
 heard_on (Letters c n) is js e s = e (begun s (pitch_of c n))
 heard_on Blank is js e s = ap (λ (ts : List Tone). given s ++ ts) (e None)
 heard_on (Mark b) is js e s = e (signed s b)
-
-number_append : (r t : List ℕ) → is_number r ≡ true → is_number (r ++ t) ≡ true
-unfolding within
-number_append [] t d = cc
-number_append (x ∷ r) t d = d
-
--- a ratio's three runs
-record Three (r p q : List ℕ) : Type 0 where
-  pub first : is_number r ≡ true
-  pub percent : is_percent p ≡ true
-  pub second : is_number q ≡ true
-
-three : (r p q : List ℕ) → (is_number r && is_percent p && is_number q) ≡ true → Three r p q
-three r p q e =
-    let b = and_parts (is_number r && is_percent p) (is_number q) e in
-    let a = and_parts (is_number r) (is_percent p) b.0 in
-    record { first = a.0; percent = a.1; second = b.1 }
 
 heard_pieces : (rs : List (List ℕ)) (s : Option Tone) → heard s (items_of (pieces rs)) ≡ heard s (items_of rs)
 unfolding items_of pieces

@@ -1,12 +1,13 @@
 -- What is stored, and what the items left give, are all; a pitch is given where its sub-token ends.
 use mathlib.Core.Path.{refl, ap, ◌∙◌}
 use mathlib.Core.List.{[]}
-use Rattle.items.specs.declared.Item.TheVariants.{Digits, Letters, Blank, Mark}
+use Rattle.items.specs.declared.Item.TheVariants.{Letters, Blank, Mark}
 use Rattle.items.proofs.RunLaws.{next_at}
-use Rattle.items.proofs.NextLaws.{next_digits, next_letters, next_blank, next_mark}
+use Rattle.items.proofs.NextLaws.{next_length, next_letters, next_blank, next_mark}
 use Rattle.token.specs.Token.{begun}
+use Rattle.token.proofs.ReferenceLaws.{heard_length}
 use Rattle.std.specs.Prelude.{None}
-use Rattle.lists.specs.Lists.{sound_bytes}
+use Rattle.lists.specs.Lists.{tone_bytes, sound_bytes}
 use Rattle.lists.proofs.FillLaws.{fill_as, fill_room, fill_turn, fill_past, write_room, write_on, write_turn, write_left}
 use Rattle.lists.proofs.ItemLaws.{heard_none}
 use Rattle.lists.proofs.CountLaws.{heard_bytes, heard_next}
@@ -14,7 +15,7 @@ use Rattle.lists.proofs.UnknownLaws.{unknowns_past}
 use Rattle.lists.proofs.fill_pitches.Goals as goal
 
 pub loop-i-preserved-then-is_digit : goal.loop-i-preserved-then-is_digit
-loop-i-preserved-then-is_digit c = write_on c.loop-i.invariant _ (next_at c.loop-i-test.true (next_digits _ _ c.loop-i-test.true c.digits_end-i.ensures c.is_digit.ensures c.if-is_digit.true refl)) (heard_next c.loop-i.sound (Digits _) refl)
+loop-i-preserved-then-is_digit c = write_on c.loop-i.invariant _ (next_at c.loop-i-test.true (next_length _ _ c.loop-i-test.true c.length_end-i.ensures c.is_digit.ensures c.if-is_digit.true)) (λ is. ap tone_bytes (heard_length c.loop-i.sound _ is))
 
 pub loop-i-preserved-then-is_letter : goal.loop-i-preserved-then-is_letter
 loop-i-preserved-then-is_letter c = write_on c.loop-i.invariant _ (next_at c.loop-i-test.true (next_letters _ _ c.loop-i-test.true c.letter_end-end.ensures c.is_digit.ensures c.if-is_digit.false c.is_letter.ensures c.if-is_letter.true)) (heard_next c.loop-i.sound (Letters _ _) (c.begin-sound.ensures ∙ ap (begun c.loop-i.sound) c.pitch_of.ensures))

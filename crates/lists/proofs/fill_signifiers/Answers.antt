@@ -3,15 +3,15 @@ use mathlib.Core.Path.{refl}
 use mathlib.Core.List.{[], ◌∷◌}
 use native.Mathlib.Omega.{arith}
 use Rattle.items.proofs.RunLaws.{next_at}
-use Rattle.items.proofs.NextLaws.{next_digits, next_letters, next_blank, next_mark}
+use Rattle.items.proofs.NextLaws.{next_length, next_letters, next_blank, next_mark}
 use Rattle.token.specs.Token.{signifiers}
 use Rattle.lists.proofs.FillLaws.{fill_as, fill_past, write_room, write_on, write_turn, write_left}
-use Rattle.token.proofs.SignifierLaws.{no_signifiers, past_digits, past_pitch, past_run, past_blank, past_known, past_unknown}
+use Rattle.token.proofs.SignifierLaws.{no_signifiers, past_length, past_pitch, past_run, past_blank, past_known, past_unknown}
 use Rattle.lists.proofs.UnknownLaws.{unknowns_room, unknowns_turn}
 use Rattle.lists.proofs.fill_signifiers.Goals as goal
 
 pub loop-i-preserved-then-is_digit : goal.loop-i-preserved-then-is_digit
-loop-i-preserved-then-is_digit c = write_on c.loop-i.invariant _ (next_at c.loop-i-test.true (next_digits _ _ c.loop-i-test.true c.digits_end-i.ensures c.is_digit.ensures c.if-is_digit.true refl)) (past_digits c.loop-i.sounding _)
+loop-i-preserved-then-is_digit c = write_on c.loop-i.invariant _ (next_at c.loop-i-test.true (next_length _ _ c.loop-i-test.true c.length_end-i.ensures c.is_digit.ensures c.if-is_digit.true)) (past_length c.loop-i.sounding _)
 
 pub loop-i-preserved-then-fits : goal.loop-i-preserved-then-fits
 loop-i-preserved-then-fits c = write_on c.loop-i.invariant _ (next_at c.loop-i-test.true (next_letters _ _ c.loop-i-test.true c.letter_end-end.ensures c.is_digit.ensures c.if-is_digit.false c.is_letter.ensures c.if-is_letter.true)) (past_pitch c.loop-i.sounding _ _ c.fits.ensures c.if-fits.true)

@@ -1,44 +1,43 @@
--- The digits before the first other byte, if they have a value and nothing is forbidden.
-use mathlib.Core.Path.{◌≡◌, ◌∙◌, sym, ap}
-use mathlib.Core.Bool.{not}
-use Prim.Native.Nat.{ℕ, ◌<◌}
-use lib.ListN.{length, take}
-use Rattle.std.proofs.Common.{rules, tests, Some}
-use Rattle.std.specs.List.{position}
-use Rattle.std.proofs.lemmas.Iterator.{YieldsList-from_slice}
-use Rattle.std.proofs.lemmas.Iterator.Search.{position_from_yields_List}
-use Rattle.duration.specs.Duration.{duration_of}
-use Rattle.items.specs.Items.{is_digit}
-use Rattle.peers.specs.Peers.{leading}
-use Rattle.peers.proofs.OfferLaws.{lead_none, lead_some, offer_whole, offer_none, offer_forbids, offer_some, offered}
+-- The length at the front, if it has a value and nothing behind it is forbidden.
+use mathlib.Core.Path.{◌∙◌, sym}
+use Rattle.std.proofs.Common.{arith, eqb-true}
+use Rattle.std.proofs.lemmas.Bool.{eqb-false}
+use Rattle.peers.proofs.OfferLaws.{no_first, no_digit, piece_inside, Led, led, offer_whole, offer_forbids, offer_valueless, offer_some, offered}
 use Rattle.peers.proofs.offer.Goals as goal
-use Rattle.peers.proofs.offer.Goals.{After-position}
+use Rattle.peers.proofs.offer.Goals.{After-split_at, then-is_empty-via-then-is_empty, then-is_empty-via-else-is_empty+then-forbids}
 
--- the first byte that is no digit, and the bytes before it
-found : (c : After-position) → c.position.result ≡ position (λ x. not (is_digit x)) c.args.token.now
-found c = position_from_yields_List (λ x. not (is_digit x)) _ _ _ c.position.ensures.ran (YieldsList-from_slice c.args.token.now cc) (λ x b q k. search (rules, tests))
+split : (c : After-split_at) → Led c.args.token.now c.split_at.result.0.now c.split_at.result.1.now
+split c =
+    let e = c.split_at.ensures in
+    led _ c.in_ok-first.ensures.value (sym c.is_digit.ensures ∙ c.if-not-is_digit.false) c.length_end.ensures e.front e.back e.front_len e.back_len
 
-led : (c : After-position) {end : ℕ} → c.position.result ≡ Some end
-    → (take end c.args.token.now ≡ leading c.args.token.now) × (length (leading c.args.token.now) < length c.args.token.now)
-led c e = lead_some _ _ (sym e ∙ found c)
+pub returns-in_err-first : goal.returns-in_err-first
+returns-in_err-first c = rw c.from_residual.ensures (no_first _ c.in_err-first.ensures.value)
 
-pub returns-in_err-end : goal.returns-in_err-end
-returns-in_err-end c = rw c.from_residual.ensures (offer_whole _ (lead_none _ (sym c.in_err-end.was ∙ found (goal.at.returns-in_err-end c).After-position)))
+pub returns-then-not-is_digit : goal.returns-then-not-is_digit
+returns-then-not-is_digit c = no_digit _ c.in_ok-first.ensures.value (sym c.is_digit.ensures ∙ c.if-not-is_digit.true)
 
-pub returns-in_err-kern_duration : goal.returns-in_err-kern_duration
-returns-in_err-kern_duration c =
-    let lead = led (goal.at.returns-in_err-kern_duration c).After-position c.in_ok-end.was in
-    rw c.from_residual-in_err-kern_duration.ensures (offer_none _ (ap duration_of (sym lead.0) ∙ sym c.kern_duration.ensures ∙ c.in_err-kern_duration.was))
+pub split_at-requires : goal.split_at-requires
+split_at-requires c = omega (arith, c.length_end.ensures, piece_inside _ c.in_ok-first.ensures.value (sym c.is_digit.ensures ∙ c.if-not-is_digit.false))
+
+pub returns-then-is_empty : goal.returns-then-is_empty
+returns-then-is_empty c =
+    let l = split (goal.at.returns-then-is_empty c).After-split_at in
+    elim c.then-is_empty.branch [
+      | then-is_empty-via-then-is_empty w ↦ offer_whole l (eqb-true _ _ (sym c.is_empty.ensures ∙ w.if-is_empty.true))
+      | then-is_empty-via-else-is_empty+then-forbids w ↦ offer_forbids l (sym w.forbids.ensures ∙ w.if-forbids.true)
+    ]
+
+pub returns-in_err-spelled_value : goal.returns-in_err-spelled_value
+returns-in_err-spelled_value c =
+    rw c.from_residual-in_err-spelled_value.ensures
+    (offer_valueless (split (goal.at.returns-in_err-spelled_value c).After-split_at) (sym c.spelled_value.ensures ∙ c.in_err-spelled_value.was))
 
 pub invariant_of-result : goal.invariant_of-result
 invariant_of-result c =
-    let lead = led (goal.at.invariant_of-result c).After-position c.in_ok-end.was in
-    record { offered = rw lead.0 (offered _ _ (ap duration_of (sym lead.0) ∙ sym c.kern_duration.ensures ∙ c.in_ok-kern_duration.was)) }
+    record { offered = offered (split (goal.at.invariant_of-result c).After-split_at) (sym c.spelled_value.ensures ∙ c.in_ok-spelled_value.was) }
 
-pub returns-then-forbids : goal.returns-then-forbids
-returns-then-forbids c = offer_forbids _ (sym c.forbids.ensures ∙ c.if-forbids.true)
-
-pub returns-else-forbids : goal.returns-else-forbids
-returns-else-forbids c =
-    let lead = led (goal.at.returns-else-forbids c).After-position c.in_ok-end.was in
-    lead.0 ∙ offer_some _ _ (sym c.forbids.ensures ∙ c.if-forbids.false) lead.1 (ap duration_of (sym lead.0) ∙ sym c.kern_duration.ensures ∙ c.in_ok-kern_duration.was)
+pub returns : goal.returns
+returns c =
+    offer_some (split (goal.at.returns c).After-split_at) (sym c.spelled_value.ensures ∙ c.in_ok-spelled_value.was) (sym c.forbids.ensures ∙ c.if-forbids.false)
+    (eqb-false _ _ (sym c.is_empty.ensures ∙ c.if-is_empty.false))
