@@ -76,13 +76,10 @@ fn fill(mut new: File, bytes: &[u8], old: Option<Metadata>) -> io::Result<()> {
     new.sync_all()
 }
 
-/// `.NAME.PROCESS.part` in the same folder.
+/// `.ruevault-PROCESS.part` in the same folder.
 fn beside(file: &Path) -> io::Result<PathBuf> {
-    let name = file.file_name().ok_or(ErrorKind::InvalidInput)?;
-    let mut beside = OsStr::new(".").to_os_string();
-    beside.push(name);
-    beside.push(format!(".{}.part", process::id()));
-    Ok(file.with_file_name(beside))
+    file.file_name().ok_or(ErrorKind::InvalidInput)?;
+    Ok(file.with_file_name(format!(".ruevault-{}.part", process::id())))
 }
 
 pub fn write_standard(bytes: &[u8]) -> io::Result<()> {

@@ -98,6 +98,16 @@ fn a_failed_write_leaves_the_old_sheet() {
     fs::remove_dir_all(folder).unwrap();
 }
 
+/// A name as long as a folder takes is written to as well.
+#[test]
+fn a_long_name() {
+    let folder = scratch("long");
+    let sheet = folder.join("n".repeat(255));
+    assert_eq!(run(&["read", "examples/sextet.krn", "-o", name(&sheet)], b"").status, 0);
+    assert_eq!(fs::metadata(&sheet).unwrap().len(), 667);
+    fs::remove_dir_all(folder).unwrap();
+}
+
 #[test]
 fn a_full_device_is_an_error() {
     let done = run(&["read", "examples/sextet.krn", "-o", "/dev/full"], b"");
