@@ -1,18 +1,28 @@
 //! Ruevault, a verified reader of Humdrum `**kern`, for Rust programs.
 //!
-//! [`sheet_of`] reads a text into a sheet, and [`records`] takes the sheet apart; [`rests_of`] fills a hole with rests. The reading itself,
-//! the rests, the words of the notices and the names of the parts are the proved library's; this crate calls it and keeps no table of its own.
+//! [`Sheet::read`] reads a text, and gives its notes, bars, parts and notices. [`sheet_of`] makes the sheet alone, which is a run of bytes
+//! (docs/SHEET.md), [`read`] puts it into a lent buffer, and [`walk`] takes it apart; [`rests_of`] fills a hole with rests. The reading itself, the
+//! rests, the words of the notices and the names of the parts are the proved library's; this crate calls it and keeps no table of these.
 //!
 //! ```
-//! let sheet = ruevault::sheet_of(b"**kern\n4c\n*-\n").unwrap();
-//! assert_eq!(sheet.len(), 119);
+//! let sheet = ruevault::Sheet::read(b"**kern\n4c\n8.f#L\n16gJ\n*-\n")?;
+//! for note in sheet.notes() {
+//!     println!("bar {} voice {}: {note}", note.bar, note.voice + 1);
+//! }
+//! assert_eq!(sheet.notes().last().unwrap().to_string(), "sixteenth G4 (beam end)");
+//! # Ok::<(), ruevault::Refusal>(())
 //! ```
+#![warn(missing_docs)]
 mod proved;
+mod records;
 mod refusal;
 mod sheet;
+mod values;
 
+pub use records::{Bar, End, Head, Note, Notice, Part, Record, Records, Span, head, is_whole, walk};
 pub use refusal::Refusal;
-pub use sheet::{Bar, End, Head, Note, Notice, Part, Pitch, Record, Records, Span, head, walk};
+pub use sheet::Sheet;
+pub use values::{Articulation, Barline, Beam, Clef, Key, Meter, Mode, Pitch, Sign, Value};
 
 /// The most bytes that a text may have.
 pub const MAX_TEXT: usize = 67_108_864;
@@ -23,17 +33,49 @@ pub fn read(text: &[u8], out: &mut [u8]) -> Result<usize, Refusal> {
     answered(proved::read(text, out))
 }
 
-/// The sheet of a text.
+/// How long the sheet of a text is: what a buffer needs for [`read`].
+///
+/// ```
+/// let text = b"**kern\n4c\n*-\n";
+/// let mut out = vec![0; ruevault::measure(text)?];
+/// assert_eq!(ruevault::read(text, &mut out), Ok(119));
+/// # Ok::<(), ruevault::Refusal>(())
+/// ```
+pub fn measure(text: &[u8]) -> Result<usize, Refusal> {
+    needed(|out| read(text, out))
+}
+
+/// The sheet of a text. It is read once, into room for most sheets, and again where its sheet is longer.
 pub fn sheet_of(text: &[u8]) -> Result<Vec<u8>, Refusal> {
-    measured(|out| read(text, out))
+    // Memory that isn't touched isn't taken.
+    let mut sheet = vec![0; room(text.len())];
+    match read(text, &mut sheet) {
+        Ok(length) => {
+            sheet.truncate(length);
+            sheet.shrink_to_fit();
+            Ok(sheet)
+        }
+        Err(Refusal { number: 13, .. }) => {
+            drop(sheet);
+            measured(|out| read(text, out))
+        }
+        Err(refusal) => Err(refusal),
+    }
+}
+
+/// Room for the sheet of a text of music: a note's token has two bytes and more, its NOTE about thirty, and a text has at most 100,000 notes.
+fn room(text: usize) -> usize {
+    (16 * text + 256).min(text + (8 << 20))
 }
 
 /// A line that a record carries on, or a branch that it adds: its column before the record and the part's header column, from 1, and its voice.
 #[derive(Clone, Copy, Debug, PartialEq, Eq)]
 pub struct Holder {
+    /// Before the record, of a branch that of its `*^`.
     pub column: u64,
     /// None of the last, the branch that finds none.
     pub voice: Option<u64>,
+    /// Where the part stands in the header.
     pub header: u64,
 }
 
@@ -52,9 +94,15 @@ pub fn gap_rests(ticks: u32, divisions: u32, notes: u32, out: &mut [u8]) -> Resu
 }
 
 /// The rests of a hole.
-pub fn rests_of(ticks: u32, divisions: u32, notes: u32) -> Result<Vec<Note>, Refusal> {
+///
+/// ```
+/// let rests = ruevault::rests_of(8000, 480, 0)?;
+/// assert_eq!(rests[1].to_string(), "quarter 3:2 rest (hidden)");
+/// # Ok::<(), ruevault::Refusal>(())
+/// ```
+pub fn rests_of(ticks: u32, divisions: u32, notes: u32) -> Result<Vec<Note<'static>>, Refusal> {
     let bytes = measured(|out| gap_rests(ticks, divisions, notes, out))?;
-    Ok(sheet::notes(&bytes))
+    Ok(records::notes(&bytes).map(|rest| rest.without_lists()).collect())
 }
 
 fn answered((refused, [number, line, figure]): (u32, [u64; 3])) -> Result<usize, Refusal> {
@@ -64,14 +112,18 @@ fn answered((refused, [number, line, figure]): (u32, [u64; 3])) -> Result<usize,
     }
 }
 
-/// What is written into a buffer of just its length. An empty buffer measures it: 13's figure is the length needed.
+/// The length of what is written. An empty buffer measures it: 13's figure is the length needed.
+fn needed(write: impl Fn(&mut [u8]) -> Result<usize, Refusal>) -> Result<usize, Refusal> {
+    match write(&mut []) {
+        Ok(length) => Ok(length),
+        Err(Refusal { number: 13, figure, .. }) => Ok(figure as usize),
+        Err(refusal) => Err(refusal),
+    }
+}
+
+/// What is written into a buffer of just its length.
 fn measured(write: impl Fn(&mut [u8]) -> Result<usize, Refusal>) -> Result<Vec<u8>, Refusal> {
-    let needed = match write(&mut []) {
-        Ok(length) => length,
-        Err(Refusal { number: 13, figure, .. }) => figure as usize,
-        Err(refusal) => return Err(refusal),
-    };
-    let mut bytes = vec![0; needed];
+    let mut bytes = vec![0; needed(&write)?];
     let length = write(&mut bytes)?;
     bytes.truncate(length);
     Ok(bytes)
@@ -90,11 +142,6 @@ pub fn notice_reason(number: u8) -> String {
 /// The name of a part: `given`, `at` and `len` are the PART record's. Where none is given it is `Spine 1` for part 0 and so on.
 pub fn part_name(text: &[u8], given: bool, at: u32, len: u32, part: u8) -> String {
     said(|out| proved::part_name(text, given.into(), at, len, part, out))
-}
-
-/// The records of a sheet in their order. [`walk`] gives them one by one, for long sheets.
-pub fn records(sheet: &[u8]) -> Vec<Record> {
-    walk(sheet).collect()
 }
 
 /// What a function of the library puts into a buffer. It is called twice, first to measure.

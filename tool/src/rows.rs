@@ -1,23 +1,54 @@
-//! Rows of columns over a text's records, only to find the source lines to show. The sheet never depends on them.
+//! Lines of a text, and rows of columns over its records: which column is whose. What is said of music comes from the sheet alone.
+use std::io::BufRead;
 
 /// A column of a row.
 #[derive(Clone, Copy)]
 pub struct Column {
     /// The part, where it is under kern.
-    pub part: Option<usize>,
-    /// The column whose token gave it, from 0.
-    pub from: usize,
-    /// Whether it is the new branch of a split.
-    pub branch: bool,
+    pub part: Option<u16>,
+    /// Which line it is, of all that the text has in their order; a line keeps its number and its voice to its end.
+    pub line: u32,
 }
 
-/// The lines of a text, from 1, without LF and the CRs before it.
-pub fn lines(text: &[u8]) -> impl Iterator<Item = (u64, &[u8])> {
-    text.split(|b| *b == b'\n').enumerate().map(|(i, line)| (i as u64 + 1, without_cr(line)))
+/// A line of the text that is neither empty nor a comment, without LF and the CRs before it.
+#[derive(Clone, Copy)]
+pub struct Record<'a> {
+    pub number: u64,
+    pub bytes: &'a [u8],
 }
 
-pub fn line_of(text: &[u8], number: u64) -> &[u8] {
-    lines(text).find(|(n, _)| *n == number).map_or(&[], |(_, line)| line)
+impl Record<'_> {
+    pub fn is_bar(&self) -> bool {
+        self.bytes[0] == b'='
+    }
+    pub fn is_star(&self) -> bool {
+        self.bytes[0] == b'*'
+    }
+}
+
+/// The lines of a text, from 1, with the place of each.
+pub struct Lines<'a> {
+    text: &'a [u8],
+    at: usize,
+    number: u64,
+}
+
+pub fn lines(text: &[u8]) -> Lines<'_> {
+    Lines { text, at: 0, number: 0 }
+}
+
+impl<'a> Iterator for Lines<'a> {
+    /// Its number, where it begins, and its bytes without LF and the CRs before it.
+    type Item = (u64, usize, &'a [u8]);
+
+    fn next(&mut self) -> Option<Self::Item> {
+        let start = self.at;
+        let mut rest = self.text.get(start..).filter(|rest| !rest.is_empty())?;
+        self.at += rest.skip_until(b'\n').unwrap_or(0);
+        self.number += 1;
+        let line = &self.text[start..self.at];
+        Some((self.number, start, without_cr(line.strip_suffix(b"\n").unwrap_or(line))))
+    }
 }
 
 fn without_cr(line: &[u8]) -> &[u8] {
@@ -25,80 +56,133 @@ fn without_cr(line: &[u8]) -> &[u8] {
     &line[..kept]
 }
 
+/// Some lines of a text, whose numbers rise; empty ones past the end.
+pub fn lines_at<'a>(text: &'a [u8], numbers: &[u64]) -> Vec<&'a [u8]> {
+    let mut all = lines(text).peekable();
+    let mut find = |number: u64| {
+        while all.next_if(|(n, ..)| *n < number).is_some() {}
+        all.peek().filter(|(n, ..)| *n == number).map_or(&[][..], |(.., line)| *line)
+    };
+    numbers.iter().map(|n| find(*n)).collect()
+}
+
+pub fn line_of(text: &[u8], number: u64) -> &[u8] {
+    lines_at(text, &[number])[0]
+}
+
 pub fn tokens(record: &[u8]) -> Vec<&[u8]> {
     record.split(|b| *b == b'\t').collect()
 }
 
-pub fn is_path(token: &[u8]) -> bool {
+/// Where a column's token begins, columns from 0; the line's end where there are too few.
+pub fn start_of(record: &[u8], column: usize) -> usize {
+    let mut ends = record.iter().enumerate().filter(|(_, b)| **b == b'\t').map(|(i, _)| i + 1);
+    if column == 0 { 0 } else { ends.nth(column - 1).unwrap_or(record.len()) }
+}
+
+fn is_path(token: &[u8]) -> bool {
     matches!(token, b"*^" | b"*v" | b"*x" | b"*+" | b"*-")
 }
 
-/// Goes through the records behind the header, each with the row that it meets, until no spine is left or `see` answers false.
-pub fn walk<'a>(text: &'a [u8], mut see: impl FnMut(u64, &'a [u8], &[Column]) -> bool) {
-    let mut records = lines(text).filter(|(_, line)| !line.is_empty() && line[0] != b'!');
-    let Some((_, head)) = records.next() else { return };
-    let mut row = first_row(head);
-    for (line, record) in records {
-        if row.is_empty() || !see(line, record, &row) {
-            return;
-        }
-        if record[0] == b'*' {
-            row = next_row(&row, &tokens(record));
-        }
-    }
+pub fn has_paths(record: &[u8]) -> bool {
+    record.split(|b| *b == b'\t').any(is_path)
 }
 
-fn first_row(head: &[u8]) -> Vec<Column> {
-    let mut parts = 0..;
-    let column = |(from, token): (usize, &[u8])| Column { part: if token == b"**kern" { parts.next() } else { None }, from, branch: false };
-    tokens(head).into_iter().enumerate().map(column).collect()
+/// Goes through the records behind the header, with the row that each meets, until no spine is left.
+pub struct Rows<'a> {
+    lines: Lines<'a>,
+    row: Vec<Column>,
+    next: Vec<Column>,
+    /// How many lines there have been.
+    count: u32,
+    /// The record that was met last, where it is still to move the row.
+    star: Option<&'a [u8]>,
 }
 
-/// The row behind a star record. A filled record changes no row, and a cut token stands behind the row.
-pub fn next_row(row: &[Column], tokens: &[&[u8]]) -> Vec<Column> {
-    let token = |i: usize| tokens.get(i).copied().unwrap_or(b"*");
-    let line = |i: usize| Column { part: row[i].part, from: i, branch: false };
-    let mut next = Vec::new();
-    let mut i = 0;
-    while i < row.len() {
-        let pair = i + 1 < row.len() && token(i + 1) == token(i);
-        match token(i) {
-            b"*^" => next.extend([line(i), Column { branch: true, ..line(i) }]),
-            b"*+" => next.extend([line(i), Column { part: None, ..line(i) }]),
-            b"*x" if pair => {
-                next.extend([line(i + 1), line(i)]);
-                i += 1;
+impl<'a> Rows<'a> {
+    pub fn new(text: &'a [u8]) -> Self {
+        let mut rows = Rows { lines: lines(text), row: Vec::new(), next: Vec::new(), count: 0, star: None };
+        if let Some(header) = rows.record() {
+            let mut parts = 0..;
+            for token in header.bytes.split(|b| *b == b'\t') {
+                let part = if token == b"**kern" { parts.next() } else { None };
+                rows.row.push(Column { part, line: rows.count });
+                rows.count += 1;
             }
-            b"*v" => {
-                next.push(line(i));
-                while i + 1 < row.len() && token(i + 1) == b"*v" {
+        }
+        rows
+    }
+
+    /// The row that the last record met.
+    pub fn row(&self) -> &[Column] {
+        &self.row
+    }
+
+    /// The row behind the last record.
+    pub fn row_behind(&mut self) -> &[Column] {
+        if let Some(star) = self.star.take() {
+            self.advance(star);
+        }
+        &self.row
+    }
+
+    fn record(&mut self) -> Option<Record<'a>> {
+        let (number, _, bytes) = self.lines.find(|(.., line)| !line.is_empty() && line[0] != b'!')?;
+        Some(Record { number, bytes })
+    }
+
+    /// The row behind a star record. A filled record changes no row, and a cut token stands behind the row.
+    fn advance(&mut self, record: &[u8]) {
+        let tokens = tokens(record);
+        let token = |i: usize| tokens.get(i).copied().unwrap_or(b"*");
+        self.next.clear();
+        let (row, next) = (&self.row, &mut self.next);
+        let mut i = 0;
+        while i < row.len() {
+            let pair = i + 1 < row.len() && token(i + 1) == token(i);
+            match token(i) {
+                b"*^" | b"*+" => {
+                    let part = if token(i) == b"*^" { row[i].part } else { None };
+                    next.extend([row[i], Column { part, line: self.count }]);
+                    self.count += 1;
+                }
+                b"*x" if pair => {
+                    next.extend([row[i + 1], row[i]]);
                     i += 1;
                 }
+                b"*v" => {
+                    next.push(row[i]);
+                    while i + 1 < row.len() && token(i + 1) == b"*v" {
+                        i += 1;
+                    }
+                }
+                b"*-" => {}
+                _ => next.push(row[i]),
             }
-            b"*-" => {}
-            _ => next.push(line(i)),
+            i += 1;
         }
-        i += 1;
+        std::mem::swap(&mut self.row, &mut self.next);
     }
-    next
 }
 
-/// A record that closes bars or changes the row.
-pub struct Turn<'a> {
-    pub line: u64,
-    pub record: &'a [u8],
-    pub closing: bool,
-}
+impl<'a> Iterator for Rows<'a> {
+    type Item = Record<'a>;
 
-/// The records begun by `=` and those with path tokens, in their order.
-pub fn turns(text: &[u8]) -> Vec<Turn<'_>> {
-    let mut found = Vec::new();
-    walk(text, |line, record, _| {
-        let closing = record[0] == b'=';
-        if closing || record[0] == b'*' && record.split(|b| *b == b'\t').any(is_path) {
-            found.push(Turn { line, record, closing });
+    fn next(&mut self) -> Option<Record<'a>> {
+        if self.row_behind().is_empty() {
+            return None;
         }
-        true
-    });
-    found
+        let record = self.record()?;
+        if record.is_star() && has_paths(record.bytes) {
+            self.star = Some(record.bytes);
+        }
+        Some(record)
+    }
+}
+
+/// The row that a line meets; that at the end of the text where the line is none of its records.
+pub fn row_at(text: &[u8], number: u64) -> Vec<Column> {
+    let mut rows = Rows::new(text);
+    while rows.next().is_some_and(|record| record.number < number) {}
+    rows.row().to_vec()
 }

@@ -1,170 +1,193 @@
-//! A sheet for a person to check: names, bars part by part, the source lines of splits and joins, notices.
-use crate::rows::{self, Turn};
+//! A sheet for a person to check: names, bars part by part, the source lines of splits and joins, tokens that gave no note, notices.
+use crate::account::{self, Class};
+use crate::message::grouped;
+use crate::score::{Lines, Measure, Score};
+use crate::unread::Unread;
 use crate::words;
-use ruevault::{Bar, End, Note, Notice, Part, Record, Span};
+use ruevault::{Bar, Barline, Note, Span};
 use std::io::{self, Write};
-use std::iter::Peekable;
-use std::vec::IntoIter;
 
-/// What a sheet says behind its bars, or anywhere.
-#[derive(Default)]
-struct Frame {
-    /// From the highest, as a score has them.
-    parts: Vec<Part>,
-    /// Their numbers and names.
-    labels: Vec<String>,
-    end: Option<End>,
-    notices: Vec<Notice>,
-    bars: u32,
-}
+/// How wide a printed line is at most, where its pieces allow it.
+const WIDTH: usize = 100;
 
-pub fn show(text: &[u8], sheet: &[u8], out: &mut impl Write) -> io::Result<()> {
-    let frame = frame_of(text, sheet);
-    show_titles(text, &frame, out)?;
-    show_parts(text, &frame, out)?;
-    show_bars(text, sheet, &frame, out)?;
-    show_notices(text, &frame.notices, out)
-}
-
-fn frame_of(text: &[u8], sheet: &[u8]) -> Frame {
-    let mut frame = Frame::default();
-    for record in ruevault::walk(sheet) {
-        match record {
-            Record::Bar(bar) => frame.bars = bar.number,
-            Record::Part(part) => frame.parts.push(part),
-            Record::End(end) => frame.end = Some(end),
-            Record::Notice(notice) => frame.notices.push(notice),
-            Record::Note(_) => {}
-        }
+pub fn show(text: Option<&[u8]>, sheet: &[u8], out: &mut impl Write) -> io::Result<()> {
+    let score = Score::new(text, sheet);
+    show_titles(&score, out)?;
+    show_parts(&score, out)?;
+    let behind = score.each(|measure| show_bar(&score, &measure, out))?;
+    show_behind(&score, &behind, out)?;
+    match text {
+        Some(text) => show_account(text, sheet, out),
+        None => show_notices(&score, out),
     }
-    frame.labels = frame.parts.iter().map(|p| label(text, p)).collect();
-    frame
 }
 
-/// `part 1, High staff`.
-fn label(text: &[u8], p: &Part) -> String {
-    let name = ruevault::part_name(text, p.name_given, p.name.at, p.name.len, p.part);
-    let name = if name.is_empty() { "without a name" } else { &words::plain(name.as_bytes()) };
-    format!("part {}, {name}", p.part)
-}
-
-fn show_titles(text: &[u8], frame: &Frame, out: &mut impl Write) -> io::Result<()> {
-    let Some(end) = &frame.end else { return Ok(()) };
-    let mut say = |label: &str, span: Span| match span.len {
-        0 => Ok(()),
-        _ => writeln!(out, "{label}: {}", words::plain(span.of(text))),
+fn show_titles(score: &Score, out: &mut impl Write) -> io::Result<()> {
+    let Some(end) = &score.end else { return Ok(()) };
+    let mut say = |label: &str, span: Span| match (span.len, score.text) {
+        (0, _) => Ok(()),
+        (_, Some(text)) => writeln!(out, "{label}: {}", words::plain(span.of(text))),
+        (len, None) => writeln!(out, "{label}: {len} bytes of the text, from byte {}", span.at),
     };
     say("Title", end.title)?;
     say("Composer", end.composer)?;
     say("Lyricist", end.lyricist)
 }
 
-fn show_parts(text: &[u8], frame: &Frame, out: &mut impl Write) -> io::Result<()> {
+fn show_parts(score: &Score, out: &mut impl Write) -> io::Result<()> {
     writeln!(out, "Parts, from the top of the score:")?;
-    for (p, label) in frame.parts.iter().zip(&frame.labels) {
+    for (p, label) in score.parts.iter().zip(&score.labels) {
         write!(out, "  {label}")?;
-        if p.short_name.len > 0 {
-            write!(out, " ({})", words::plain(p.short_name.of(text)))?;
+        let short = score.text_of(p.short_name);
+        if !short.is_empty() {
+            write!(out, " ({})", words::plain(short))?;
         }
-        writeln!(out, ", {}", words::clef(p.clef))?;
+        if score.text.is_none() && p.name.len > 0 {
+            write!(out, " (named in the text, {} bytes from byte {})", p.name.len, p.name.at)?;
+        }
+        let given = score.clefs.get(usize::from(p.part)).is_none_or(|given| *given);
+        writeln!(out, ", {}{}", p.clef, if given { "" } else { " (not given)" })?;
     }
     Ok(())
 }
 
-/// Bar by bar; the notes of a bar stand before its BAR records, one for each part.
-fn show_bars(text: &[u8], sheet: &[u8], frame: &Frame, out: &mut impl Write) -> io::Result<()> {
-    let mut turns = rows::turns(text).into_iter().peekable();
-    let (mut notes, mut bars) = (Vec::new(), Vec::new());
-    for record in ruevault::walk(sheet) {
-        match record {
-            Record::Note(note) => notes.push(note),
-            Record::Bar(bar) => bars.push(bar),
-            _ => {}
-        }
-        if bars.len() == frame.parts.len() {
-            let last = bars.first().is_some_and(|b: &Bar| b.number == frame.bars);
-            let paths = paths_of_bar(&mut turns, notes.last(), last);
-            show_bar(frame, &notes, &bars, &paths, out)?;
-            notes.clear();
-            bars.clear();
-        }
-    }
-    Ok(())
+/// `Bar 2 (=1, lines 19-24)`.
+pub fn heading(measure: &Measure) -> String {
+    let lines = &measure.lines;
+    let labels = lines.labels.iter().map(|l| words::plain(l)).collect::<Vec<_>>().join(" ");
+    let span = match (lines.first, lines.last) {
+        (0, _) => String::new(),
+        (a, b) if a == b => format!("line {a}"),
+        (a, b) => format!("lines {a}-{b}"),
+    };
+    let said = [labels, span].into_iter().filter(|s| !s.is_empty()).collect::<Vec<_>>().join(", ");
+    if said.is_empty() { format!("Bar {}", measure.number) } else { format!("Bar {} ({said})", measure.number) }
 }
 
-/// The records with path tokens of the open bar: those before its closing, the first record begun by `=` behind its last note. The last bar
-/// has also those behind.
-fn paths_of_bar<'a>(turns: &mut Peekable<IntoIter<Turn<'a>>>, note: Option<&Note>, last: bool) -> Vec<Turn<'a>> {
-    let from = note.map_or(0, |n| u64::from(n.line));
-    let mut paths = Vec::new();
-    while let Some(turn) = turns.next_if(|t| last || !t.closing || t.line < from) {
-        paths.push(turn);
+fn show_bar(score: &Score, measure: &Measure, out: &mut impl Write) -> io::Result<()> {
+    let Some(first) = measure.bars.first() else { return Ok(()) };
+    writeln!(out, "\n{}", heading(measure))?;
+    if first.left != Barline::Normal {
+        writeln!(out, "  barline on the left: {}", first.left)?;
     }
-    turns.next();
-    paths.retain(|t| !t.closing);
-    paths
-}
-
-fn show_bar(frame: &Frame, notes: &[Note], bars: &[Bar], paths: &[Turn], out: &mut impl Write) -> io::Result<()> {
-    let Some(first) = bars.first() else { return Ok(()) };
-    writeln!(out, "\nBar {}", first.number)?;
-    if first.left != 0 {
-        writeln!(out, "  barline on the left: {}", words::barline(first.left))?;
-    }
-    for (part, label) in frame.parts.iter().zip(&frame.labels) {
+    for (part, label) in score.parts.iter().zip(&score.labels) {
         // BARs stand by rising part.
-        show_settings(label, bars.get(usize::from(part.part)), out)?;
-        show_voices(part.part, notes, !paths.is_empty(), out)?;
+        show_settings(score, label, measure.bars.get(usize::from(part.part)), out)?;
+        show_voices(score, part.part, measure, out)?;
     }
-    writeln!(out, "  barline: {}", words::barline(first.right))?;
-    for path in paths {
-        writeln!(out, "  line {}: {}", path.line, words::plain(path.record))?;
+    for path in &measure.lines.paths {
+        writeln!(out, "    line {}: {}", path.number, words::plain(path.bytes))?;
     }
-    Ok(())
+    writeln!(out, "  barline: {}", first.right)
 }
 
-fn show_settings(label: &str, bar: Option<&Bar>, out: &mut impl Write) -> io::Result<()> {
-    let settings = bar.map(words::settings).unwrap_or_default();
+fn show_settings(score: &Score, label: &str, bar: Option<&Bar>, out: &mut impl Write) -> io::Result<()> {
+    let settings = bar.map(|b| words::settings(b, score.gives(b))).unwrap_or_default();
     let between = if settings.is_empty() { "" } else { ": " };
     writeln!(out, "  {label}{between}{settings}")
 }
 
-/// The voices of a part that have notes in the bar.
-fn show_voices(part: u8, notes: &[Note], with_lines: bool, out: &mut impl Write) -> io::Result<()> {
-    let mut voices = [const { Vec::new() }; 4];
-    for note in notes.iter().filter(|n| n.part == part && n.voice < 4) {
-        voices[usize::from(note.voice)].push(in_its_place(note, with_lines));
+/// What a voice has in a bar, with line and column to sort it by.
+type Piece = (u64, usize, String);
+
+/// The voices of a part that have notes in the bar, or tokens that gave none.
+fn show_voices(score: &Score, part: u8, measure: &Measure, out: &mut impl Write) -> io::Result<()> {
+    let with_lines = !measure.lines.paths.is_empty();
+    let mut voices: [Vec<Piece>; 5] = [const { Vec::new() }; 5];
+    for note in measure.notes.iter().filter(|n| n.part == part && n.voice < 4) {
+        voices[usize::from(note.voice)].push((note.line.into(), note.column.into(), in_its_place(note, with_lines)));
+    }
+    for u in measure.lines.unread.iter().filter(|u| u.part == u16::from(part)) {
+        let voice = score.voice_of(u).map_or(4, usize::from).min(4);
+        voices[voice].push((u.line, u.column, not_read(u)));
     }
     if voices.iter().all(Vec::is_empty) {
         return writeln!(out, "    no notes");
     }
-    for (voice, said) in voices.iter().enumerate().filter(|(_, said)| !said.is_empty()) {
-        writeln!(out, "    voice {voice}: {}", said.join("; "))?;
+    for (voice, pieces) in voices.iter_mut().enumerate().filter(|(_, pieces)| !pieces.is_empty()) {
+        pieces.sort();
+        let label = if voice < 4 { format!("    voice {}: ", voice + 1) } else { "    a line without any note: ".to_string() };
+        write_wrapped(&label, pieces, out)?;
     }
     Ok(())
+}
+
+/// The pieces with `; ` between them, wrapped.
+fn write_wrapped(label: &str, pieces: &[Piece], out: &mut impl Write) -> io::Result<()> {
+    let mut line = label.to_string();
+    let mut fresh = true;
+    for (i, (.., piece)) in pieces.iter().enumerate() {
+        let end = if i + 1 < pieces.len() { ";" } else { "" };
+        let wide = line.chars().count() + 1 + piece.chars().count() + end.len();
+        if !fresh && wide > WIDTH {
+            writeln!(out, "{line}")?;
+            line = " ".repeat(6);
+        } else if !fresh {
+            line.push(' ');
+        }
+        fresh = false;
+        line += piece;
+        line += end;
+    }
+    writeln!(out, "{line}")
 }
 
 /// A note, with its source line before it in a bar whose lines split, join, exchange or end.
 fn in_its_place(n: &Note, with_line: bool) -> String {
-    if with_line { format!("[{}] {}", n.line, words::note(n)) } else { words::note(n) }
+    if with_line { format!("[{}] {n}", n.line) } else { n.to_string() }
 }
 
-fn show_notices(text: &[u8], notices: &[Notice], out: &mut impl Write) -> io::Result<()> {
-    match notices.len() {
-        0 => return writeln!(out, "\nNo notices."),
-        1024 => writeln!(out, "\nNotices (1,024 are the most that are kept, so there may be more):")?,
-        _ => writeln!(out, "\nNotices:")?,
+pub fn not_read(u: &Unread) -> String {
+    format!("NOT READ: line {}, token {}, `{}`", u.line, u.column, words::shortened(u.token))
+}
+
+/// What stands behind the last bar.
+fn show_behind(score: &Score, lines: &Lines, out: &mut impl Write) -> io::Result<()> {
+    if lines.unread.is_empty() && lines.paths.is_empty() {
+        return Ok(());
     }
-    for notice in notices {
-        writeln!(out, "  {}", said(text, notice))?;
+    writeln!(out, "\nBehind the last bar")?;
+    for u in &lines.unread {
+        let label = score.parts.iter().zip(&score.labels).find(|(p, _)| u16::from(p.part) == u.part).map_or("", |(_, label)| label);
+        let voice = score.voice_of(u).map_or("a line without any note".to_string(), |v| format!("voice {}", v + 1));
+        writeln!(out, "  {label}, {voice}: {}", not_read(u))?;
+    }
+    for path in &lines.paths {
+        writeln!(out, "  line {}: {}", path.number, words::plain(path.bytes))?;
     }
     Ok(())
 }
 
-/// Line and column, code and reason, and what was preserved, with the key of a reference record.
-fn said(text: &[u8], n: &Notice) -> String {
-    let column = if n.column == 0 { String::new() } else { format!(", column {}", n.column) };
-    let key = if n.key.len == 0 { String::new() } else { format!("{} ", words::plain(n.key.of(text))) };
-    let (code, reason) = (ruevault::notice_code(n.number), ruevault::notice_reason(n.number));
-    format!("line {}{column}: {code}, {reason}; preserved: {key}`{}`", n.line, words::plain(n.preserved(text)))
+fn show_account(text: &[u8], sheet: &[u8], out: &mut impl Write) -> io::Result<()> {
+    let account = account::of(text, sheet, 1);
+    for (class, heading) in [(Class::Lost, "Lost"), (Class::Ignored, "Ignored"), (Class::Harmless, "Harmless")] {
+        if account.total(class) > 0 {
+            writeln!(out, "\n{heading}:")?;
+        }
+        for group in account.of_class(class) {
+            writeln!(out, "  {}", group.said())?;
+        }
+    }
+    writeln!(out, "\n{}", account.summary())
+}
+
+/// Without the text: where the notices stand, and no more.
+fn show_notices(score: &Score, out: &mut impl Write) -> io::Result<()> {
+    if !score.notices.is_empty() {
+        writeln!(out, "\nNotices:")?;
+    }
+    for n in &score.notices {
+        let token = if n.column == 0 { String::new() } else { format!(", token {}", n.column) };
+        let said = if n.number == 17 { format!(": `{}`", words::shortened(n.bytes)) } else { String::new() };
+        writeln!(out, "  line {}{token}: {}{said}", n.line, ruevault::notice_reason(n.number))?;
+    }
+    let notes = ruevault::head(score.sheet).map_or(0, |h| h.notes);
+    writeln!(
+        out,
+        "\n{} parts, {} bars, {} notes, {} notices. What was not read is seen only beside the text.",
+        score.parts.len(),
+        grouped(score.bars.into()),
+        grouped(notes.into()),
+        grouped(score.notices.len() as u64)
+    )
 }

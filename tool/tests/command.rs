@@ -1,186 +1,105 @@
-//! The tool itself: what it prints and how it exits.
+//! How the tool is called, and how it exits.
+mod common;
+use common::{example, run, scratch};
 use std::fs;
-use std::io::Write;
-use std::path::PathBuf;
-use std::process::{Command, Stdio};
-
-const SEXTET: &str = concat!(env!("CARGO_MANIFEST_DIR"), "/../examples/sextet.krn");
-
-struct Run {
-    status: i32,
-    out: Vec<u8>,
-    said: String,
-    err: String,
-}
-
-/// Runs the tool with an input.
-fn run(words: &[&str], input: &[u8]) -> Run {
-    let mut command = Command::new(env!("CARGO_BIN_EXE_ruevault"));
-    command.args(words).stdin(Stdio::piped()).stdout(Stdio::piped()).stderr(Stdio::piped());
-    let mut child = command.spawn().unwrap();
-    // A run that doesn't want the input may have ended.
-    let _ = child.stdin.take().unwrap().write_all(input);
-    let done = child.wait_with_output().unwrap();
-    let text = |bytes: &[u8]| String::from_utf8(bytes.to_vec()).unwrap_or_default();
-    Run { status: done.status.code().unwrap(), said: text(&done.stdout), out: done.stdout, err: text(&done.stderr) }
-}
-
-fn shown(text: &[u8]) -> String {
-    let run = run(&["show", "-"], text);
-    assert_eq!((run.status, run.err.as_str()), (0, ""));
-    run.said
-}
-
-/// The message of a refusal, which leaves standard output empty.
-fn refused(text: &[u8]) -> String {
-    let run = run(&["show", "-"], text);
-    assert_eq!((run.status, run.out.len()), (1, 0));
-    run.err
-}
-
-fn scratch(name: &str) -> PathBuf {
-    std::env::temp_dir().join(format!("ruevault-{}-{name}", std::process::id()))
-}
 
 #[test]
-fn show_has_the_source_line_under_its_bar() {
-    let run = run(&["show", SEXTET], b"");
-    assert_eq!(run.status, 0);
-    let (one, two) = run.said.split_once("\nBar 2\n").unwrap();
-    assert!(one.contains("  line 11: *^\t*-\t*-\t*^\t*\n"));
-    assert!(one.contains("voice 1: [10] half C4; [12] quarter B-flat 2; [13] quarter D3\n"));
-    assert!(two.contains("  line 15: *v\t*v\t*v\t*v\t*\n") && !two.contains("line 11"));
-    assert!(one.starts_with("Title: Sextet, the low staff\nComposer: Ruevault\n"));
-}
-
-#[test]
-fn show_takes_standard_input() {
-    assert_eq!(shown(&fs::read(SEXTET).unwrap()), run(&["show", SEXTET], b"").said);
-}
-
-#[test]
-fn show_has_the_words_of_musicians() {
-    let said = shown(b"**kern\n*clefC3\n*k[b-e-]\n*g:\n*M6/8\n*MM96\n2.B-[\n8r\n=||\n4c 4e 4g\n12dLT'\n12e_\n12f##J)\n8ccq\n=:|\n4c\n==\n*-\n");
-    for words in [
-        "alto clef (C3), key G minor (2 flats), meter 6/8, tempo quarter = 96\n",
-        "voice 0: dotted half B-flat 3 (tie start); eighth rest\n",
-        "voice 0: quarter C4 E4 G4; eighth 3:2 D4 (beam begin, trill, staccato); eighth 3:2 E4 (tie end, tie start, beam); ",
-        "eighth 3:2 F-double-sharp 4 (slur end, beam end); slashed grace eighth C5\n",
-        "  barline: double\n",
-        "  barline: repeat end\n",
-        "  barline: final\n",
-        "Spine 1",
+fn wrong_calls_name_the_wrong_word_first() {
+    for (words, first) in [
+        (&[][..], "a command is wanted"),
+        (&["play", "a"], "there is no command `play`"),
+        (&["examples/song.krn"], "there is no command `examples/song.krn`; `ruevault show examples/song.krn` shows the file"),
+        (&["--jso"], "there is no option `--jso`"),
+        (&["show"], "show wants the name of a file, or - for standard input"),
+        (&["show", "-x"], "show has no option `-x`"),
+        (&["show", "a", "-o", "b"], "show has no option `-o`"),
+        (&["show", "a", "--all"], "show has no option `--all`"),
+        (&["read", "a"], "read wants -o and the name of the sheet, or -o - for standard output"),
+        (&["read", "a", "-o"], "behind -o the name of a sheet is wanted"),
+        (&["read", "a", "-o", "b", "-o", "c"], "read has no option `-o` a second time"),
+        (&["read", "a", "--json", "-o", "b"], "read has no option `--json`"),
+        (&["proof", "a"], "proof wants -o and the name of the page, or -o - for standard output"),
+        (&["proof", "a", "b", "-o", "c"], "proof takes one file, and `b` is one more"),
+        (&["proof", "a", "-o"], "behind -o the name of a page is wanted"),
+        (&["check", "-", "-"], "standard input (-) can be read only once"),
+        (&["check", "--", "-x", "-", "-"], "standard input (-) can be read only once"),
+        (&["rests"], "rests takes two or three numbers, and there are 0"),
+        (&["rests", "1"], "rests takes two or three numbers, and there are 1"),
+        (&["rests", "1", "2", "3", "4"], "rests takes two or three numbers, and there are 4"),
+        (&["rests", "1", "two"], "`two` is no whole number from 0 to 4294967295"),
+        (&["rests", "4294967296", "1"], "`4294967296` is no whole number from 0 to 4294967295"),
+        (&["rests", "-1", "1"], "`-1` is no whole number from 0 to 4294967295"),
+        (&["help", "play"], "there is no command `play`"),
+        (&["help", "show", "read"], "help takes one command, and `read` is one more"),
+        (&["show", "-\u{200b}"], "show has no option `-\\u{200b}`"),
     ] {
-        assert!(said.contains(words), "{words} is not in\n{said}");
+        let done = run(words, b"");
+        assert_eq!((done.status, done.out.len()), (2, 0), "{words:?}");
+        assert_eq!(done.err.lines().next().unwrap(), format!("ruevault: {first}"));
+        assert!(done.err.lines().nth(1).unwrap().starts_with("usage: ruevault "), "{}", done.err);
     }
 }
 
 #[test]
-fn show_has_ratios_as_tuplets() {
-    let said = shown(b"**kern\n3%2c\n2%3d\n4%2e\n3%2.r\n3%2cq\n=\n1c\n*-\n");
-    assert!(said.contains("voice 0: whole 3:2 C4; breve 4:3 D4; half E4; dotted whole 3:2 rest; slashed grace whole 3:2 C4\n"), "{said}");
+fn help_and_version() {
+    for command in ["read", "show", "check", "proof", "rests", "help"] {
+        let help = run(&["help", command], b"");
+        assert_eq!((help.status, help.err.as_str()), (0, ""));
+        assert!(help.said.starts_with(&format!("usage: ruevault {command}")), "{}", help.said);
+        assert_eq!(run(&[command, "a", "--help"], b"").said, help.said);
+        assert_eq!(run(&[command, "-h"], b"").said, help.said);
+        assert!(run(&["help"], b"").said.contains(&format!("ruevault {command} ")));
+    }
+    assert_eq!(run(&["--help"], b"").said, run(&["help"], b"").said);
+    assert_eq!(run(&["-h"], b"").said, run(&["help"], b"").said);
+    for word in ["--version", "-V"] {
+        assert_eq!(run(&[word], b"").said, format!("ruevault {}\n", env!("CARGO_PKG_VERSION")));
+    }
 }
 
 #[test]
-fn show_has_notices_with_what_they_preserve() {
-    let said = shown(b"!!!ONM: 3\n**kern\t**dynam\n4cX\tf\n*-\t*-\n");
-    assert!(said.contains("line 1: humdrum.unsupported-reference, Humdrum reference record is not represented in the score model; preserved: ONM `3`\n"));
-    assert!(said.contains("line 2, column 2: humdrum.unsupported-spine, only **kern spines are imported; preserved: `**dynam`\n"));
-    assert!(said.contains("line 3, column 1: humdrum.unsupported-signifier, "));
-    assert!(said.contains("preserved: `X`\n"));
-}
-
-/// A record with path tokens is the bar's that is open there, whatever comes next in it.
-#[test]
-fn path_records_are_under_the_open_bar() {
-    let said = shown(b"**kern\n=1\n4c\n*^\n=2\t=2\n4c\t4e\n*v\t*v\n=3\n=4\n*+\n4c\t.\n==\t==\n*-\t*-\n*^\n");
-    let bars: Vec<&str> = said.split("\nBar ").collect();
-    assert!(bars[1].contains("\n  line 4: *^\n"));
-    assert!(bars[2].contains("\n  line 7: *v\t*v\n"));
-    assert!(bars[3].contains("\n  line 10: *+\n  line 13: *-\t*-\n\nNotices:\n"));
-    assert!(!said.contains("  line 14: *^"));
+fn files_behind_two_hyphens() {
+    let folder = scratch("hyphens");
+    let file = folder.join("-x");
+    fs::write(&file, "**kern\n4c\n*-\n").unwrap();
+    let mut command = std::process::Command::new(env!("CARGO_BIN_EXE_ruevault"));
+    command.args(["check", "--", "-x"]).current_dir(&folder);
+    let done = common::run_with(command, b"");
+    assert_eq!((done.status, done.err.as_str()), (0, "-x: 1 part, 1 bar, 1 note; lost: 0, ignored: 0, harmless: 0\n"));
+    // Behind them a word is a file also where it looks like an option; what isn't there is said.
+    let done = run(&["check", "--", "--help"], b"");
+    assert_eq!(done.status, 2);
+    assert!(done.err.starts_with("ruevault: --help: "), "{}", done.err);
+    fs::remove_dir_all(folder).unwrap();
 }
 
 #[test]
-fn refused_with_8() {
-    let said = refused(b"**kern\n*^\n*^\t*^\n*\t*^\t*\t*\n");
-    assert!(said.contains("more than four lines"));
-    assert!(said.ends_with("line 4: *\t*^\t*\t*\n         \t^\nheader column 1 is full with column 1 (voice 0), column 2 (voice 2), column 3 (voice 1), column 4 (voice 3); the branch of column 2 finds no voice\nnumber 8, line 4, figure 0\n"), "{said}");
-}
-
-/// Two branches, of which the first takes the voice that the line beside it frees.
-#[test]
-fn the_mark_is_under_the_branch_without_a_voice() {
-    let said = refused(b"**kern\n*^\n*^\t*^\n*^\t*^\t*-\t*\n");
-    assert!(said.contains("line 4: *^\t*^\t*-\t*\n          \t^\n"), "{said}");
-}
-
-#[test]
-fn refused_with_17() {
-    let said = refused(b"**kern\t**kern\t**kern\n*\t*v\t*v\n");
-    assert!(said.starts_with("refused: The `*v` from column 2 on join lines of different parts, or of kern and of another kind.\n"), "{said}");
-    assert!(said.ends_with("line 2: *\t*v\t*v\n         \t^\nnumber 17, line 2, figure 2\n"), "{said}");
-}
-
-#[test]
-fn refused_with_6() {
-    let said = refused(b"**kern\n4c\t4d\n");
-    assert!(said.ends_with("line 2: 4c\t4d\n          \t^\nactive spines: 1\nnumber 6, line 2, figure 2\n"), "{said}");
-    let said = refused(b"**kern\t**kern\n4c\n");
-    assert!(said.ends_with("line 2: 4c\n          ^\nactive spines: 2\nnumber 6, line 2, figure 1\n"), "{said}");
-}
-
-#[test]
-fn refused_as_it_is_not_utf_8() {
-    let said = refused(b"**kern\n4c\xFF\n*-\n");
-    assert!(said.contains("not UTF-8"));
-    assert!(said.ends_with("line 2: 4c\\xFF\n          ^\nnumber 2, line 0, figure 9\n"), "{said}");
-}
-
-#[test]
-fn refused_without_a_line() {
-    assert_eq!(refused(b""), "refused: The text has no header.\nnumber 11, line 0, figure 0\n");
-}
-
-#[test]
-fn a_refused_text_makes_no_sheet() {
-    let sheet = scratch("none.sheet");
-    assert_eq!(run(&["read", "-", "-o", sheet.to_str().unwrap()], b"**kern\n*-\n").status, 1);
-    assert!(!sheet.exists());
-}
-
-#[test]
-fn read_writes_the_sheet() {
-    let sheet = scratch("sextet.sheet");
-    let done = run(&["read", SEXTET, "-o", sheet.to_str().unwrap()], b"");
-    assert_eq!((done.status, done.said.as_str(), done.err.as_str()), (0, "", ""));
-    let bytes = fs::read(&sheet).unwrap();
-    fs::remove_file(&sheet).unwrap();
-    assert_eq!(bytes.len(), 667);
-    assert_eq!(bytes, ruevault::sheet_of(&fs::read(SEXTET).unwrap()).unwrap());
-}
-
-#[test]
-fn read_writes_to_standard_output() {
-    let done = run(&["read", "-", "-o", "-"], b"**kern\n4c\n*-\n");
-    assert_eq!((done.status, done.out.len()), (0, 119));
-    assert_eq!(done.out, ruevault::sheet_of(b"**kern\n4c\n*-\n").unwrap());
-}
-
-#[test]
-fn usage_and_file_errors() {
-    let usages: [&[&str]; 8] =
-        [&[], &["show"], &["read", "a"], &["read", "a", "-o"], &["show", "a", "-o", "b"], &["show", "a", "b"], &["play", "a"], &["show", "-x"]];
-    for words in usages {
+fn files_that_can_not_be_read() {
+    for words in [&["show", "/no/such.krn"][..], &["check", "/no/such.krn"], &["read", "/no/such.krn", "-o", "-"], &["show", "--json", "/no/such.krn"]] {
         let done = run(words, b"");
         assert_eq!((done.status, done.out.len()), (2, 0));
-        assert!(done.err.starts_with("usage: "));
+        assert!(done.err.starts_with("ruevault: /no/such.krn: "), "{}", done.err);
     }
-    let done = run(&["show", "/no/such.krn"], b"");
-    assert_eq!((done.status, done.out.len()), (2, 0));
-    assert!(done.err.starts_with("ruevault: /no/such.krn: "));
-    assert_eq!(run(&["read", SEXTET, "-o", "/no/such/folder/a"], b"").status, 2);
-    assert_eq!(run(&["--help"], b"").status, 0);
+    assert!(run(&["show", "examples"], b"").err.starts_with("ruevault: examples: "));
+}
+
+/// Every file is told of, and the worst status stands.
+#[test]
+fn many_files() {
+    let done = run(&["check", "examples/sextet.krn", "examples/broken/11-empty.krn", "examples/chorale.krn"], b"");
+    assert_eq!(done.status, 1);
+    assert!(done.err.starts_with("examples/sextet.krn: 2 parts, 2 bars, 16 notes; "), "{}", done.err);
+    assert!(done.err.contains("\nexamples/broken/11-empty.krn:1:1: error[11]: "));
+    assert!(done.err.contains("\nexamples/chorale.krn: 4 parts, 9 bars, "));
+    assert!(done.err.ends_with("\n3 files: 2 accepted, 1 refused\n"));
+    let done = run(&["check", "examples/broken/11-empty.krn", "/no/such.krn", "examples/sextet.krn"], b"");
+    assert_eq!(done.status, 2);
+    assert!(done.err.ends_with("\n3 files: 1 accepted, 1 refused, 1 can't be read\n"));
+    let shown = run(&["show", "examples/sextet.krn", "examples/broken/11-empty.krn", "-"], &example("song.krn"));
+    assert_eq!(shown.status, 1);
+    assert!(shown.said.starts_with("==> examples/sextet.krn <==\nTitle: Sextet, the low staff\n"));
+    assert!(shown.said.contains("\n\n==> - <==\nTitle: Frère Jacques\n"));
+    assert!(shown.err.starts_with("examples/broken/11-empty.krn:1:1: error[11]: "));
 }
 
 #[test]
@@ -190,9 +109,6 @@ fn rests_of_a_hole() {
     assert_eq!(run(&["rests", "0", "480"], b"").said, "");
     let full = run(&["rests", "96", "480", "50000"], b"");
     assert_eq!((full.status, full.out.len()), (1, 0));
-    assert_eq!(full.err, "refused: The voice would have more than 50,000 notes.\nnumber 15, line 0, figure 0\n");
-    assert_eq!(run(&["rests", "1", "0"], b"").err, "refused: No value fits the ticks that remain of the hole.\nnumber 14, line 0, figure 0\n");
-    for words in [&["rests"][..], &["rests", "1"], &["rests", "1", "two"], &["rests", "1", "2", "3", "4"], &["rests", "4294967296", "1"], &["rests", "-1", "1"]] {
-        assert_eq!(run(words, b"").status, 2);
-    }
+    assert_eq!(full.err, "ruevault: error[15]: the voice would have more than 50,000 notes\n");
+    assert_eq!(run(&["rests", "1", "0"], b"").err, "ruevault: error[14]: no value fits the ticks that remain of the hole\n");
 }
