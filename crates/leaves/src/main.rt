@@ -1,6 +1,7 @@
 #![tactic(auto)]
 
-// Answers requests about the reader's leaves, a request and an answer to a line. The first byte of a request names the leaf.
+// Answers requests about the reader's leaves, a request and an answer to a line. The first byte of a request names the leaf. 65,536 bytes
+// are read at most.
 use duration::Value;
 use interpretation::Interpretation;
 use names::SpineName;
@@ -8,16 +9,20 @@ use notation::beam::Beam;
 use notice::Code;
 use pitch::Pitch;
 use reference::Key;
-use std::io::{self, BufRead, BufReader};
+use std::io::{self, BufRead, BufReader, Read};
 
-// The number that digits write.
-fn number_of(digits: &[u8]) -> Option<u32> {
-    str::from_utf8(digits).ok()?.parse().ok()
+// The number that digits write, its last ten digits, below 2^32.
+fn number_of(digits: &[u8]) -> u32 {
+    let n = digits
+        .iter()
+        .fold(0u64, |n, digit| n % 1_000_000_000 * 10 + u64::from(digit % 16));
+    (n % 4_294_967_296) as u32
 }
 
-// The same of a byte.
-fn byte_of(digits: &[u8]) -> Option<u8> {
-    u8::try_from(number_of(digits)?).ok()
+// The number that up to three digits write, below 256.
+fn byte_of(digits: &[u8]) -> u8 {
+    let first = digits.get(..3).unwrap_or(digits);
+    (number_of(first) % 256) as u8
 }
 
 // D: a length as it is spelled, to value, actual, normal.
@@ -125,9 +130,7 @@ fn reference_of(rt: &impl Print, record: &[u8]) -> io::Result<()> {
 
 // N: a notice's number, to its code and reason.
 fn notice_of(rt: &impl Print, body: &[u8]) -> io::Result<()> {
-    let Some(number) = byte_of(body) else {
-        return print!(rt; "?");
-    };
+    let number = byte_of(body);
     let code = notice::code(number).unwrap_or("");
     let reason = notice::reason(number).unwrap_or("");
     print!(rt; "{code}|{reason}")
@@ -135,24 +138,20 @@ fn notice_of(rt: &impl Print, body: &[u8]) -> io::Result<()> {
 
 // S: a part, to the name it has where none is given.
 fn name_of(rt: &impl Print, body: &[u8]) -> io::Result<()> {
-    let Some(part) = byte_of(body) else {
-        return print!(rt; "?");
-    };
-    let fallback = SpineName::new(part);
+    let fallback = SpineName::new(byte_of(body));
     rt.write_all(names::part_name(b"", None, fallback.as_bytes()))
 }
 
-// H: ticks, divisions, the voice's notes and the buffer's length, to the answer, and value, actual and normal of each rest.
+// H: ticks, divisions, the voice's notes and the buffer's length, 4,096 at most, to the answer, and value, actual and normal of each rest.
 fn hole_of(rt: &(impl Print + AllocGlobal), body: &[u8]) -> io::Result<()> {
-    let mut numbers = body.split(|b| *b == b' ').filter_map(number_of);
-    let (Some(ticks), Some(divisions), Some(notes), Some(room)) = (
-        numbers.next(),
-        numbers.next(),
-        numbers.next(),
-        numbers.next(),
-    ) else {
-        return print!(rt; "?");
-    };
+    let mut numbers = body.splitn(4, |b| *b == b' ').map(number_of);
+    let ticks = numbers.next().unwrap_or(0);
+    let divisions = numbers.next().unwrap_or(0);
+    let notes = numbers.next().unwrap_or(0);
+    let room = numbers.next().unwrap_or(0);
+    if 4096 < room {
+        return Ok(());
+    }
     let mut rests = vec![in rt.alloc(); 0u8; room as usize]?;
     match gap::gap_rests(ticks, divisions, notes, &mut rests) {
         Ok(long) => {
@@ -190,7 +189,7 @@ fn answer(rt: &(impl Print + AllocGlobal), request: &[u8]) -> io::Result<()> {
 // Stays: `rows` and `tokens` have this main too; one over a closure would be a crate that promises nothing, for no clause says what is read.
 fn main(rt: HostRuntime) -> io::Result<()> {
     let alloc = rt.alloc();
-    for request in BufReader::new(alloc, rt.reader())?.split(alloc, b'\n') {
+    for request in BufReader::new(alloc, rt.reader().take(65536))?.split(alloc, b'\n') {
         answer(&rt, &request?)?;
         println!(rt; "")?;
     }

@@ -2,10 +2,10 @@
 
 // Answers with the row that star records make of a header, a request and an answer to a line. A request is `V`, a letter for each header
 // column (`k` kern, `o` another), and the records, each behind a `|`. The answer has part and voice of each column, `-` outside
-// kern, or the number of the question that stops the reading, 17 with its column.
+// kern, or the number of the question that stops the reading, 17 with its column. 65,536 bytes are read at most.
 use paths::Spine;
 use spines::Line;
-use std::io::{self, BufRead, BufReader};
+use std::io::{self, BufRead, BufReader, Read};
 use voices::{Rows, Stop};
 
 // The header's row, by the letters of its columns.
@@ -37,15 +37,16 @@ fn print_row(rt: &impl Print, row: &[u16]) -> io::Result<()> {
     Ok(())
 }
 
-// Takes the row through a request's header and its records: how many spines are active then.
+// Takes the row through a request's header and its records, a `|` behind the last or none: how many spines are active then.
 fn walk(request: &[u8], rows: &mut Rows) -> Result<usize, Stop> {
-    let mut records = request.split(|b| *b == b'|');
-    let header = records.next().unwrap_or(b"");
-    let letters = header.strip_prefix(b"V").unwrap_or(header);
+    let mut pieces = request.splitn(2, |b| *b == b'|');
+    let header = pieces.next().unwrap_or(b"");
+    let letters = header.get(1..).unwrap_or(b"");
     rows.row = header_row(letters);
     let mut active = letters.len().min(256);
-    for record in records {
-        active = rows.step(record, active)?;
+    let records = pieces.next().unwrap_or(b"");
+    for record in records.split_inclusive(|b| *b == b'|') {
+        active = rows.step(record.strip_suffix(b"|").unwrap_or(record), active)?;
     }
     Ok(active)
 }
@@ -63,7 +64,7 @@ fn answer(rt: &impl Print, request: &[u8]) -> io::Result<()> {
 // Stays: `leaves` and `tokens` have this main too; one over a closure would be a crate that promises nothing, for no clause says what is read.
 fn main(rt: HostRuntime) -> io::Result<()> {
     let alloc = rt.alloc();
-    for request in BufReader::new(alloc, rt.reader())?.split(alloc, b'\n') {
+    for request in BufReader::new(alloc, rt.reader().take(65536))?.split(alloc, b'\n') {
         answer(&rt, &request?)?;
         println!(rt; "")?;
     }

@@ -2,11 +2,11 @@
 
 // Answers what becomes of the last token of a record whose columns are all kern, a request and an answer to a line: `T` and the record.
 // The answer has the token's notices, 17 with its bytes, and then its note: value, actual, normal, dots, flags, beam, the bytes of its
-// pitches and its articulations.
+// pitches and its articulations; the pitches of fewer than 300, and 1,024 bytes at most of each list. 65,536 bytes are read at most.
 use duration::Value;
 use notation::beam::Beam;
 use notice::Code;
-use std::io::{self, BufRead, BufReader};
+use std::io::{self, BufRead, BufReader, Read};
 use token::outcome::{Note, Unread};
 
 fn print_bytes(rt: &impl Print, bytes: &[u8]) -> io::Result<()> {
@@ -38,11 +38,13 @@ fn beam_of(token: &[u8]) -> u8 {
 fn print_note(rt: &(impl Print + AllocGlobal), n: Note, token: &[u8]) -> io::Result<()> {
     print!(rt; "note {} {} {} {} ", n.value, n.actual, n.normal, n.dots)?;
     print!(rt; "{} {} {} ", flags_of(n), beam_of(token), n.pitches)?;
-    let mut pitches = vec![in rt.alloc(); 0u8; n.pitches.saturating_mul(3)]?;
-    lists::put_pitches(&mut pitches, token);
-    print_bytes(rt, &pitches)?;
+    if n.pitches < 300 {
+        let mut pitches = vec![in rt.alloc(); 0u8; n.pitches * 3]?;
+        lists::put_pitches(&mut pitches, token);
+        print_bytes(rt, &pitches)?;
+    }
     print!(rt; "{} ", n.articulations)?;
-    let mut articulations = vec![in rt.alloc(); 0u8; n.articulations]?;
+    let mut articulations = vec![in rt.alloc(); 0u8; n.articulations.min(1024)]?;
     lists::put_articulations(&mut articulations, token);
     print_bytes(rt, &articulations)
 }
@@ -51,7 +53,7 @@ fn print_signifiers(rt: &(impl Print + AllocGlobal), count: usize, token: &[u8])
     if count == 0 {
         return Ok(());
     }
-    let mut signifiers = vec![in rt.alloc(); 0u8; count]?;
+    let mut signifiers = vec![in rt.alloc(); 0u8; count.min(1024)]?;
     lists::put_signifiers(&mut signifiers, token);
     print!(rt; "17 ")?;
     rt.write_all(&signifiers)?;
@@ -90,9 +92,9 @@ fn answer(rt: &(impl Print + AllocGlobal), line: &[u8]) -> io::Result<()> {
 // Stays: `leaves` and `rows` have this main too; one over a closure would be a crate that promises nothing, for no clause says what is read.
 fn main(rt: HostRuntime) -> io::Result<()> {
     let alloc = rt.alloc();
-    for request in BufReader::new(alloc, rt.reader())?.split(alloc, b'\n') {
+    for request in BufReader::new(alloc, rt.reader().take(65536))?.split(alloc, b'\n') {
         let request = request?;
-        answer(&rt, request.strip_prefix(b"T").unwrap_or(&request))?;
+        answer(&rt, request.get(1..).unwrap_or(b""))?;
         println!(rt; "")?;
     }
     Ok(())
