@@ -1,6 +1,6 @@
 -- A line's trailing CRs: by the last byte that is none, and the line cut there.
 use mathlib.Core.Path.{◌≡◌, refl, sym, ap}
-use Prim.Native.Nat.{ℕ, zero, suc, ◌+◌, ◌≤◌, ◌<◌}
+use Prim.Native.Nat.{ℕ, zero, suc, ◌+◌, ◌-◌, ◌≤◌, ◌<◌}
 use native.Mathlib.Nat.{not-suc-le-zero}
 use native.Mathlib.Omega.{arith}
 use mathlib.Core.List.{List, [], ◌∷◌}
@@ -32,6 +32,12 @@ last_kept (x ∷ xs) zero h other crs = rw (none_kept xs (λ k l. crs (suc k) (o
 last_kept (x ∷ xs) (suc i) h other crs =
     let e : length (without_crs xs) ≡ i + 1 = last_kept xs i (omega arith) other (λ k l m. crs (suc k) (omega arith) (omega arith)) in
     omega (arith, e, keep_some x (without_crs xs) (omega arith))
+
+-- a line whose last byte is no CR stays whole
+pub whole_kept : (s : List ℕ) → 0 < length s → (get_or s (length s - 1) 0 ≡ 13 → ⊥) → length (without_crs s) ≡ length s
+whole_kept s some other =
+    let e = last_kept s (length s - 1) (omega (arith, some)) other (λ k l m. absurd (omega (arith, l, m))) in
+    omega (arith, some, e)
 
 -- cutting a line at the length of its content leaves the content
 pub content_take : (s : List ℕ) → take (length (without_crs s)) s ≡ without_crs s

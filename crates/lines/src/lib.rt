@@ -16,14 +16,30 @@ pub enum Kind {
     Data,
 }
 
-// The length of a line without its trailing CRs. A call: inlined, its loop takes registers of the reader's.
+// The same of a line that ends with a CR. A call: inlined, its loop takes registers of the reader's.
 #[inline(never)]
-pub fn content(line: &[u8]) -> usize
+fn trimmed(line: &[u8]) -> usize
     ensures { (result ≡ length (without_crs line.now)) × (result ≤ length line.now) }
 {
     line.iter()
         .rposition(|&x| x != b'\r')
         .map_or(0, |last| last + 1)
+}
+
+// The length of a line without its trailing CRs.
+#[inline(always)]
+#[tactic(auto, using(crate::proofs::TrimLaws::whole_kept))]
+pub fn content(line: &[u8]) -> usize
+    ensures { (result ≡ length (without_crs line.now)) × (result ≤ length line.now) }
+{
+    let n = line.len();
+    if n == 0 {
+        return 0;
+    }
+    if line[n - 1] != b'\r' {
+        return n;
+    }
+    trimmed(line)
 }
 
 // The index of the next LF from `from` on, or the length. Lines begun by `!` are long, and searched by blocks from the start.

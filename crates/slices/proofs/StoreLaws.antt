@@ -4,8 +4,9 @@ use mathlib.Core.List.{List, [], ◌∷◌, ◌++◌, append_assoc, append-nil}
 use Prim.Native.Nat.{ℕ, suc, ◌+◌, ◌-◌, ◌≤◌, ◌<◌}
 use native.Mathlib.Nat.{add-zero, add-suc, suc-add, zero-add}
 use native.Mathlib.Omega.{arith}
-use lib.ListN.{length, take, drop, set, length-drop, drop_of_length-le}
-use lib.Seq.{sets, sets-eq, take_all, drop-drop}
+use native.Mathlib.Numerals.{add-one}
+use lib.ListN.{length, get_or, take, drop, set, length-drop, drop_of_length-le}
+use lib.Seq.{sets, sets-eq, take_all, drop-drop, take-suc, length-take-le}
 use borrow.Author.Tests.{le-leb, lt-leb}
 use Rattle.slices.specs.Store.{stored}
 
@@ -39,3 +40,9 @@ stored_tail bytes xs ys at h e =
     let fits : length bytes ≤ length (drop at xs) = omega arith in
     let l : sets (drop at xs) 0 bytes ≡ bytes ++ drop (length bytes) (drop at xs) = rw zero-add at (sets-eq bytes (drop at xs) 0 (omega arith)) in
     rw (e, whole, none, append-nil, stored_sets (drop at xs) bytes fits, l, sets-eq bytes xs at h, append_assoc, drop-drop)
+
+-- one more byte of a copy
+pub copy_more : (l s : List ℕ) (i : ℕ) → i < length s → set (sets l 0 (take i s)) i (get_or s i 0) ≡ sets l 0 (take (i + 1) s)
+copy_more l s i h =
+    let n : length (take i s) ≡ i = length-take-le i s (omega arith) in
+    rw (add-one, take-suc s i 0 h) (rw (zero-add, n) at (sets_append (take i s) (get_or s i 0 ∷ []) l 0))

@@ -1,10 +1,8 @@
 -- The new row with its voices taken over.
 use mathlib.Core.Path.{◌≡◌, sym, ap, ◌∙◌}
 use Prim.Native.Nat.{ℕ, ◌≤◌, ◌<◌}
-use native.Mathlib.Omega.{arith}
-use mathlib.Core.List.{List, ◌++◌}
+use mathlib.Core.List.{List}
 use lib.ListN.{length, take}
-use lib.Seq.{take_at}
 use borrow.Author.Tests.{le-leb, lt-leb}
 use Rattle.paths.specs.declared.PathToken.{PathToken}
 use Rattle.paths.specs.Joins.{mixed_run}
@@ -21,11 +19,9 @@ module _ (cells : List ℕ) (n : ℕ) (size : length cells ≡ n) where
   pub too_wide : 256 < n → wide n ≡ narrow (next (row_of cells))
   too_wide h = sym (rw (row_length cells, size, lt-leb n 256 h))
 
-  -- the cells stand in front of what the row held
-  pub taken_over : (front rest : List ℕ) → n ≤ 256 → front ≡ cells → next (row_of (take n (front ++ rest))) ≡ narrow (next (row_of cells))
-  taken_over front rest h e =
-      let t : take n (front ++ rest) ≡ cells = take_at front rest n (omega (arith, ap length e)) ∙ e in
-      rw (t, row_length cells, size, le-leb n 256 h)
+  -- all cells are copied
+  pub taken_over : (row : List ℕ) → n ≤ 256 → take n row ≡ cells → next (row_of (take n row)) ≡ narrow (next (row_of cells))
+  taken_over row h e = rw (e, row_length cells, size, le-leb n 256 h)
 
 -- ---- one star record: its runs first, then the next row
 module _ (row : List Spine) (ts : List PathToken) {r : Std.Option ℕ} (runs : (o : Outcome) → runs_of r o ≡ unmixed (mixed_run (part_at row) ts) o) where

@@ -120,15 +120,19 @@ fn settle(row: &mut [u16; 512], cells: &mut [u16], masks: &mut [u8; 8192]) -> Re
     if count > 256 {
         return Err(Stop::Wide(count));
     }
-    row[..count].copy_from_slice(cells);
+    // Stays: cell by cell, and no `copy_from_slice`: the library for C needs no memmove for it.
+    for (i, cell) in cells.iter().enumerate() {
+        row[i] = *cell;
+    }
     Ok(count)
 }
 
 // The row of spines in cells, and what a star record is lent beside it: room for the next row, and a mask of held voices for each part.
+// The next row stands first, so that the copy to the row is a loop of its own and no call.
 #[derive(Drop)]
 pub struct Rows {
-    pub row: [u16; 512],
     pub next: [u16; 512],
+    pub row: [u16; 512],
     pub masks: [u8; 8192],
     pub ghost room: { length row ≡ 512 },
 }

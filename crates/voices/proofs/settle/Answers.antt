@@ -1,4 +1,8 @@
 -- The voices first, then question 9 by the count, then the copy.
+use mathlib.Core.Path.{◌≡◌}
+use native.Mathlib.Omega.{arith}
+use lib.ListN.{length, take}
+use lib.Seq.{take_all}
 use Rattle.std.proofs.Common.{ap, ◌∙◌}
 use Rattle.paths.specs.Voices.{narrow}
 use Rattle.voices.proofs.StepLaws.{too_wide, taken_over}
@@ -10,4 +14,7 @@ returns-then-count-gt256-clause-outcome c =
 
 pub returns-clause-outcome : goal.returns-clause-outcome
 returns-clause-outcome c =
-    taken_over c.give.new.cells _ c.give.auto.cells _ _ c.if-count-gt256.false c.copy_from_slice.ensures.after ∙ ap narrow c.in_ok-give.ensures
+    let all : c.loop-i.i ≡ length c.args.cells.now = omega (arith, c.give.auto.cells) in
+    let same : take (length c.args.cells.now) c.loop-i.row ≡ c.give.new.cells =
+    rw (← all) (c.loop-i.invariant.1 ∙ take_all c.loop-i.i c.give.new.cells (omega (arith, all, c.give.auto.cells))) in
+    taken_over c.give.new.cells _ c.give.auto.cells c.loop-i.row c.if-count-gt256.false same ∙ ap narrow c.in_ok-give.ensures
