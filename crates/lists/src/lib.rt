@@ -54,9 +54,8 @@ fn put_run(out: &mut [u8], k: usize, run: &[u8]) -> usize
     requires { k + length run.now ≤ length out.old }
     ensures { (out.new ≡ sets out.old k run.now) × (result ≡ k + length run.now) }
 {
-    let end = k + run.len();
-    out[k..end].copy_from_slice(run);
-    end
+    slices::put(&mut out[k..], run);
+    k + run.len()
 }
 
 // The signifiers of a token, for which there is room.
