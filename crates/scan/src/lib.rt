@@ -241,7 +241,8 @@ fn step_sounds(s: Sounds, item: Item) -> Sounds
     ensures { result ≡ step_sounds s item }
 {
     match item {
-        Item::Digits(_) | Item::Ratio(_) => s,
+        // Stays: field by field, and not `s`, whose padding a copy carries through memory: one chord took half as long again with it.
+        Item::Digits(_) | Item::Ratio(_) => Sounds { ..s },
         Item::Letters { letter, count } if fits(s.sounding, letter, count) => Sounds {
             sounding: true,
             pitches: s.pitches + 1,
@@ -251,7 +252,7 @@ fn step_sounds(s: Sounds, item: Item) -> Sounds
             sounding: false,
             ..s
         },
-        Item::Mark(b) if passes(s.sounding, b) => s,
+        Item::Mark(b) if passes(s.sounding, b) => Sounds { ..s },
         Item::Letters { .. } | Item::Mark(_) => with_unknown(s, 1),
     }
 }
