@@ -38,12 +38,12 @@ use Rattle.header.specs.Columns.{HeaderTable}
 pub column_kern : (t : List ℕ) (p : ℕ) (a : ActiveLine) → a.part ≡ p → a.voice ≡ 0 → is_kern t ≡ true
     → (spine_of (cell_of (Some a)) ∷ [] ≡ header_from p (is_kern t ∷ [])) × (p + 1 ≡ p + length (fresh_parts p (is_kern t ∷ [])))
 unfolding header_from fresh_parts
-column_kern t p a is_part is_voice k = rw k (ap (λ (x : Spine). x ∷ []) (cell_says (Some a) ∙ ap₂ Line is_part is_voice), refl)
+column_kern t p a is_part is_voice k = rw k (ap (λ (x : Spine). x ∷ []) (cell_says (Some a) (omega (arith, is_voice)) ∙ ap₂ Line is_part is_voice), refl)
 
 pub column_other : (t : List ℕ) (p : ℕ) → is_kern t ≡ false
     → (spine_of (cell_of None) ∷ [] ≡ header_from p (is_kern t ∷ [])) × (p ≡ p + length (fresh_parts p (is_kern t ∷ [])))
 unfolding header_from fresh_parts
-column_other t p k = rw k (ap (λ (x : Spine). x ∷ []) (cell_says None), sym (add-zero p))
+column_other t p k = rw k (ap (λ (x : Spine). x ∷ []) (cell_says None tt), sym (add-zero p))
 
 -- a column in front of others
 header_more : (b : Bool) (p : ℕ) (ks : List Bool) → header_from p (b ∷ ks) ≡ header_from p (b ∷ []) ++ header_from (p + length (fresh_parts p (b ∷ []))) ks

@@ -142,7 +142,7 @@ fn notice_other(token: TextToken, tally: Tally, out: &mut [u8]) -> Tally
     writing::notify(
         out,
         tally,
-        Code::UnsupportedSpine,
+        u8::from(Code::UnsupportedSpine),
         token.line,
         token.column,
         piece,

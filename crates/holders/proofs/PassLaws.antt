@@ -1,4 +1,4 @@
--- The passes over a record's tokens and the row's table, turn by turn.
+-- The passes over a record's tokens and the lines of the row's cells, turn by turn.
 use mathlib.Core.Path.{◌≡◌, refl, sym, ap, ap₂, ◌∙◌}
 use Prim.Native.Nat.{ℕ, zero, suc, ◌+◌, ◌-◌, ◌≤◌, ◌<◌}
 use native.Mathlib.Numerals.{add-one}
@@ -6,7 +6,7 @@ use native.Mathlib.Omega.{arith}
 use mathlib.Core.Bool.{Bool, true, false, cond, ◌&&◌, ◌||◌}
 use mathlib.Core.List.{List, [], ◌∷◌, map}
 use lib.Dec.{eqb}
-use lib.ListN.{length, take, drop, set}
+use lib.ListN.{length, get_or, take, drop, set}
 use lib.Seq.{length-take-le, take-suc-set}
 use borrow.Author.Tests.{lt-ltb, le-ltb, ne_eqb}
 use Rattle.slices.specs.Split.{pieces}
@@ -16,10 +16,10 @@ use Rattle.lines.specs.Tokens.{is_kern}
 use Rattle.paths.specs.declared.PathToken.{PathToken}
 use Rattle.paths.specs.declared.Spine.{Spine}
 use Rattle.paths.specs.Token.{is_join}
-use Rattle.spines.specs.Table.{active_at, active_spine, active_row}
-use Rattle.spines.specs.declared.active.Line.{Line as ActiveLine}
+use Rattle.spines.specs.Cells.{spine_of, row_of}
+use Rattle.spines.specs.Table.{line_of}
 use Rattle.spines.specs.Tokens.{path_tokens, record_tokens, at_hand, Ahead}
-use Rattle.spines.proofs.TableLaws.{active_drop}
+use Rattle.spines.proofs.CellLaws.{row_drop}
 use Rattle.holders.specs.Voice.{has, free_voice}
 use Rattle.holders.proofs.FiveLaws.{or_four, free_same}
 use Rattle.std.proofs.Common.{Option, Some, None, is_some, unwrap_or}
@@ -75,40 +75,40 @@ is_of_some p (Branch q) = refl
 is_of_some p Outside = refl
 
 -- ---- the tokens left, the first of which is at hand
-tokens_here : (table : List (Option ActiveLine)) {line : List ℕ} {from i next : ℕ} {t : PathToken} → i < length table → Ahead line from (length table - i) t next
-    → path_tokens (length table - i) (pieces 9 from line) ≡ t ∷ path_tokens (length table - (i + 1)) (pieces 9 next line)
+tokens_here : (row : List ℕ) {line : List ℕ} {from i next : ℕ} {t : PathToken} → i < length row → Ahead line from (length row - i) t next
+    → path_tokens (length row - i) (pieces 9 from line) ≡ t ∷ path_tokens (length row - (i + 1)) (pieces 9 next line)
 unfolding at_hand
-tokens_here table {line} {from} {i} {next} {t} h a =
-    let z : length table - i ≡ suc (length table - (i + 1)) = omega arith in a.same ∙ ap (λ (n : ℕ). at_hand n t (pieces 9 next line)) z
+tokens_here row {line} {from} {i} {next} {t} h a =
+    let z : length row - i ≡ suc (length row - (i + 1)) = omega arith in a.same ∙ ap (λ (n : ℕ). at_hand n t (pieces 9 next line)) z
 
-tokens_first : (line : List ℕ) (table : List (Option ActiveLine)) → path_tokens (length table - 0) (pieces 9 0 line) ≡ record_tokens (length table) line
-tokens_first line table = let z : length table - 0 ≡ length table = omega arith in rw (z, all_pieces 9 line)
+tokens_first : (line : List ℕ) (row : List ℕ) → path_tokens (length row - 0) (pieces 9 0 line) ≡ record_tokens (length row) line
+tokens_first line row = let z : length row - 0 ≡ length row = omega arith in rw (z, all_pieces 9 line)
 
 -- ---- the lines
-pub record Lining (p c : ℕ) (line : List ℕ) (table : List (Option ActiveLine)) (held : List Holder) (follows : Bool) (from i : ℕ) : Type 0 where
-  pub high : i ≤ length table
-  pub same : lines_from p c held i follows (path_tokens (length table - i) (pieces 9 from line)) (active_row (drop i table))
-      ≡ lines_from p c [] 0 false (record_tokens (length table) line) (active_row table)
+pub record Lining (p c : ℕ) (line : List ℕ) (row : List ℕ) (held : List Holder) (follows : Bool) (from i : ℕ) : Type 0 where
+  pub high : i ≤ length row
+  pub same : lines_from p c held i follows (path_tokens (length row - i) (pieces 9 from line)) (map line_of (row_of (drop i row)))
+      ≡ lines_from p c [] 0 false (record_tokens (length row) line) (map line_of (row_of row))
 
-pub lining_first : (p c : ℕ) (line : List ℕ) (table : List (Option ActiveLine)) {held : List Holder} → held ≡ [] → Lining p c line table held false 0 0
-lining_first p c line table {held} e = record { high = omega arith; same = rw (e, tokens_first line table) }
+pub lining_first : (p c : ℕ) (line : List ℕ) (row : List ℕ) {held : List Holder} → held ≡ [] → Lining p c line row held false 0 0
+lining_first p c line row {held} e = record { high = omega arith; same = rw (e, tokens_first line row) }
 
-module _ {p c : ℕ} {line : List ℕ} {table : List (Option ActiveLine)} {held : List Holder} {follows : Bool} {from i : ℕ} (inv : Lining p c line table held follows from i) where
-  pub lining_turn : {next : ℕ} {t : PathToken} {s : Option ActiveLine} {held' : List Holder} {f : Bool} → i < length table → Ahead line from (length table - i) t next
-      → s ≡ active_at table i → held' ≡ line_step p c held (i + 1) follows t (active_spine s) → f ≡ is_join t → Lining p c line table held' f next (i + 1)
+module _ {p c : ℕ} {line : List ℕ} {row : List ℕ} {held : List Holder} {follows : Bool} {from i : ℕ} (inv : Lining p c line row held follows from i) where
+  pub lining_turn : {next : ℕ} {t : PathToken} {s : Spine} {held' : List Holder} {f : Bool} → i < length row → Ahead line from (length row - i) t next
+      → s ≡ line_of (spine_of (get_or row i 0)) → held' ≡ line_step p c held (i + 1) follows t s → f ≡ is_join t → Lining p c line row held' f next (i + 1)
   unfolding lines_from
   lining_turn {next} {t} {s} {held'} {f} h a at e j = record {
     high = omega arith;
-    same = ap₂ (λ (hs : List Holder) (g : Bool). lines_from p c hs (i + 1) g (path_tokens (length table - (i + 1)) (pieces 9 next line)) (active_row (drop (i + 1) table))) (rw at at e) j
-        ∙ ap (λ (k : ℕ). lines_from p c (line_step p c held (i + 1) follows t (active_spine (active_at table i))) k (is_join t) (path_tokens (length table - (i + 1)) (pieces 9 next line)) (active_row (drop (i + 1) table))) (add-one i)
-        ∙ sym (ap₂ (λ (ts : List PathToken) (ss : List Spine). lines_from p c held i follows ts ss) (tokens_here table h a) (active_drop table i h)) ∙ inv.same;
+    same = ap₂ (λ (hs : List Holder) (g : Bool). lines_from p c hs (i + 1) g (path_tokens (length row - (i + 1)) (pieces 9 next line)) (map line_of (row_of (drop (i + 1) row)))) (rw at at e) j
+        ∙ ap (λ (k : ℕ). lines_from p c (line_step p c held (i + 1) follows t (line_of (spine_of (get_or row i 0)))) k (is_join t) (path_tokens (length row - (i + 1)) (pieces 9 next line)) (map line_of (row_of (drop (i + 1) row)))) (add-one i)
+        ∙ sym (ap₂ (λ (ts : List PathToken) (ss : List Spine). lines_from p c held i follows ts ss) (tokens_here row h a) (ap (map line_of) (row_drop row i h))) ∙ inv.same;
   }
 
-  pub lining_past : length table ≤ i → held ≡ lines_from p c [] 0 false (record_tokens (length table) line) (active_row table)
+  pub lining_past : length row ≤ i → held ≡ lines_from p c [] 0 false (record_tokens (length row) line) (map line_of (row_of row))
   unfolding lines_from path_tokens
   lining_past h =
-      let z : length table - i ≡ 0 = omega arith in
-      sym (ap (λ (n : ℕ). lines_from p c held i follows (path_tokens n (pieces 9 from line)) (active_row (drop i table))) z) ∙ inv.same
+      let z : length row - i ≡ 0 = omega arith in
+      sym (ap (λ (n : ℕ). lines_from p c held i follows (path_tokens n (pieces 9 from line)) (map line_of (row_of (drop i row)))) z) ∙ inv.same
 
 -- a step by the tests on the spine and its token
 module _ (p c i : ℕ) (held : List Holder) (follows : Bool) (t : PathToken) (s : Spine) where
@@ -126,32 +126,32 @@ module _ (p c i : ℕ) (held : List Holder) (follows : Bool) (t : PathToken) (s 
   step_other n = rw (of_none p s n)
 
 -- ---- the branches
-pub record Branching (p c : ℕ) (line : List ℕ) (table : List (Option ActiveLine)) (hs held : List Holder) (from i : ℕ) : Type 0 where
-  pub high : i ≤ length table
-  pub same : branches_from p c held i (path_tokens (length table - i) (pieces 9 from line)) (active_row (drop i table))
-      ≡ branches_from p c hs 0 (record_tokens (length table) line) (active_row table)
+pub record Branching (p c : ℕ) (line : List ℕ) (row : List ℕ) (hs held : List Holder) (from i : ℕ) : Type 0 where
+  pub high : i ≤ length row
+  pub same : branches_from p c held i (path_tokens (length row - i) (pieces 9 from line)) (map line_of (row_of (drop i row)))
+      ≡ branches_from p c hs 0 (record_tokens (length row) line) (map line_of (row_of row))
 
-pub branching_first : (p c : ℕ) (line : List ℕ) (table : List (Option ActiveLine)) {held : List Holder} → Branching p c line table held held 0 0
-branching_first p c line table {held} = record { high = omega arith; same = rw (tokens_first line table) }
+pub branching_first : (p c : ℕ) (line : List ℕ) (row : List ℕ) {held : List Holder} → Branching p c line row held held 0 0
+branching_first p c line row {held} = record { high = omega arith; same = rw (tokens_first line row) }
 
-module _ {p c : ℕ} {line : List ℕ} {table : List (Option ActiveLine)} {hs held : List Holder} {from i : ℕ} (inv : Branching p c line table hs held from i) where
-  module _ {next : ℕ} {t : PathToken} {b : Bool} (h : i < length table) (a : Ahead line from (length table - i) t next)
-      {s : Option ActiveLine} (at : s ≡ active_at table i) (is : b ≡ (is_of p (active_spine s) && is_split t)) where
+module _ {p c : ℕ} {line : List ℕ} {row : List ℕ} {hs held : List Holder} {from i : ℕ} (inv : Branching p c line row hs held from i) where
+  module _ {next : ℕ} {t : PathToken} {b : Bool} (h : i < length row) (a : Ahead line from (length row - i) t next)
+      {s : Spine} (at : s ≡ line_of (spine_of (get_or row i 0))) (is : b ≡ (is_of p s && is_split t)) where
     -- the rest from the column of number k on
     abbrev rest : ℕ → List Holder
     rest k =
         let more = put held (entry p c (i + 1) (free_voice held)) in
-        let ts = path_tokens (length table - (i + 1)) (pieces 9 next line) in
-        cond b (cond (eqb (free_voice held) 4) more (branches_from p c more k ts (active_row (drop (i + 1) table)))) (branches_from p c held k ts (active_row (drop (i + 1) table)))
+        let ts = path_tokens (length row - (i + 1)) (pieces 9 next line) in
+        cond b (cond (eqb (free_voice held) 4) more (branches_from p c more k ts (map line_of (row_of (drop (i + 1) row))))) (branches_from p c held k ts (map line_of (row_of (drop (i + 1) row))))
 
-    here_next : rest (suc i) ≡ branches_from p c hs 0 (record_tokens (length table) line) (active_row table)
+    here_next : rest (suc i) ≡ branches_from p c hs 0 (record_tokens (length row) line) (map line_of (row_of row))
     unfolding branches_from
-    here_next = rw (is, at) (sym (ap₂ (λ (ts : List PathToken) (ss : List Spine). branches_from p c held i ts ss) (tokens_here table h a) (active_drop table i h)) ∙ inv.same)
+    here_next = rw (is, at) (sym (ap₂ (λ (ts : List PathToken) (ss : List Spine). branches_from p c held i ts ss) (tokens_here row h a) (ap (map line_of) (row_drop row i h))) ∙ inv.same)
 
-    here : rest (i + 1) ≡ branches_from p c hs 0 (record_tokens (length table) line) (active_row table)
+    here : rest (i + 1) ≡ branches_from p c hs 0 (record_tokens (length row) line) (map line_of (row_of row))
     here = ap rest (add-one i) ∙ here_next
 
-    pub branching_on : b ≡ false → Branching p c line table hs held next (i + 1)
+    pub branching_on : b ≡ false → Branching p c line row hs held next (i + 1)
     branching_on f = record { high = omega arith; same = rw f at here }
 
     -- the voice that is found, 4 for none
@@ -164,8 +164,8 @@ module _ {p c : ℕ} {line : List ℕ} {table : List (Option ActiveLine)} {hs he
           go None = refl
           go (Some v) = refl
 
-      taken : cond (eqb (unwrap_or found 4) 4) held' (branches_from p c held' (i + 1) (path_tokens (length table - (i + 1)) (pieces 9 next line)) (active_row (drop (i + 1) table)))
-          ≡ branches_from p c hs 0 (record_tokens (length table) line) (active_row table)
+      taken : cond (eqb (unwrap_or found 4) 4) held' (branches_from p c held' (i + 1) (path_tokens (length row - (i + 1)) (pieces 9 next line)) (map line_of (row_of (drop (i + 1) row))))
+          ≡ branches_from p c hs 0 (record_tokens (length row) line) (map line_of (row_of row))
       taken = rw (more, value) (rw f at here)
 
       low : is_some found ≡ true → unwrap_or found 4 < 4
@@ -175,21 +175,21 @@ module _ {p c : ℕ} {line : List ℕ} {table : List (Option ActiveLine)} {hs he
           go None y e = clash cc
           go (Some v) y e = lowest_low (λ v. has v held) v e
 
-      pub branching_turn : is_some found ≡ true → Branching p c line table hs held' next (i + 1)
+      pub branching_turn : is_some found ≡ true → Branching p c line row hs held' next (i + 1)
       branching_turn y = record { high = omega arith; same = rw (ne_eqb (unwrap_or found 4) 4 (λ e. omega (arith, low y))) at taken }
 
-      pub branching_done : is_some found ≡ false → held' ≡ branches_from p c hs 0 (record_tokens (length table) line) (active_row table)
+      pub branching_done : is_some found ≡ false → held' ≡ branches_from p c hs 0 (record_tokens (length row) line) (map line_of (row_of row))
       branching_done n = go found n taken
         where
-          go : (o : Option ℕ) → is_some o ≡ false → {r : List Holder} → cond (eqb (unwrap_or o 4) 4) held' (branches_from p c held' (i + 1) (path_tokens (length table - (i + 1)) (pieces 9 next line)) (active_row (drop (i + 1) table))) ≡ r → held' ≡ r
+          go : (o : Option ℕ) → is_some o ≡ false → {r : List Holder} → cond (eqb (unwrap_or o 4) 4) held' (branches_from p c held' (i + 1) (path_tokens (length row - (i + 1)) (pieces 9 next line)) (map line_of (row_of (drop (i + 1) row)))) ≡ r → held' ≡ r
           go None n e = e
           go (Some v) n e = clash cc
 
-  pub branching_past : length table ≤ i → held ≡ branches_from p c hs 0 (record_tokens (length table) line) (active_row table)
+  pub branching_past : length row ≤ i → held ≡ branches_from p c hs 0 (record_tokens (length row) line) (map line_of (row_of row))
   unfolding branches_from path_tokens
   branching_past h =
-      let z : length table - i ≡ 0 = omega arith in
-      sym (ap (λ (n : ℕ). branches_from p c held i (path_tokens n (pieces 9 from line)) (active_row (drop i table))) z) ∙ inv.same
+      let z : length row - i ≡ 0 = omega arith in
+      sym (ap (λ (n : ℕ). branches_from p c held i (path_tokens n (pieces 9 from line)) (map line_of (row_of (drop i row)))) z) ∙ inv.same
 
 -- ---- the voices that are held
 pub has_any : (v : ℕ) (hs : List Holder) → list_any (λ x. eqb v x.voice) hs ≡ has v hs

@@ -114,7 +114,7 @@ fn notify_token(token: &[u8], what: Code, spot: Spot, tally: Tally, out: &mut [u
     writing::notify(
         out,
         tally,
-        what,
+        u8::from(what),
         spot.line,
         spot.column,
         Span {

@@ -7,6 +7,18 @@ ghost use Rattle.place.specs.Taken.{Taken};
 
 use lines::Kind;
 
+// The line from one index of a text of any length to another, without the CRs at its end.
+#[inline(always)]
+#[tactic(auto, using(lines::proofs::TrimLaws::content_take))]
+pub fn line_of(text: &[u8], from: usize, end: usize) -> &[u8]
+    requires { (from ≤ end) × (end ≤ length text.now) }
+    ensures { result.now ≡ without_crs (take (end - from) (drop from text.now)) }
+{
+    let line = &text[from..end];
+    let long = lines::content(line);
+    &line[..long]
+}
+
 // A text that is no longer than a text may be.
 #[derive(Clone, Copy, PartialEq, Eq, Debug)]
 pub struct Text<'a> {
@@ -16,14 +28,11 @@ pub struct Text<'a> {
 
 impl<'a> Text<'a> {
     // The bytes from one index to another, without the CRs at their end.
-    #[tactic(auto, using(lines::proofs::TrimLaws::content_take))]
     pub fn content(self, from: usize, end: usize) -> &'a [u8]
         requires { (from ≤ end) × (end ≤ length self.bytes.now) }
         ensures { result.now ≡ without_crs (take (end - from) (drop from self.entry.bytes.now)) }
     {
-        let line = &self.bytes[from..end];
-        let long = lines::content(line);
-        &line[..long]
+        line_of(self.bytes, from, end)
     }
 }
 

@@ -16,6 +16,7 @@ ghost use Rattle.reader.specs.Told.{finished_by, Tells, no_tally};
 ghost use Rattle.reader.specs.Measured.{Measured};
 
 use lines::Kind;
+pub use place::line_of;
 use place::{Place, Text};
 use reading::Part;
 use refusal::Refusal;

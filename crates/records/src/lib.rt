@@ -58,7 +58,7 @@ fn notice_repair(repair: Repair, line: TextLine<'_>, tally: Tally, out: &mut [u8
 {
     match repair_notice(repair) {
         None => tally,
-        Some(what) => writing::notify(out, tally, what, line.number, 0, span_of(line)),
+        Some(what) => writing::notify(out, tally, u8::from(what), line.number, 0, span_of(line)),
     }
 }
 
@@ -144,7 +144,7 @@ fn read_record(
         let noticed = writing::notify(
             out,
             tally,
-            Code::UnsupportedSegment,
+            u8::from(Code::UnsupportedSegment),
             line.number,
             0,
             span_of(line),

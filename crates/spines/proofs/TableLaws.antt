@@ -6,9 +6,10 @@ use native.Mathlib.Omega.{arith}
 use mathlib.Core.List.{List, [], ◌∷◌, ◌++◌, map}
 use lib.ListN.{length, get_or, take, drop, set, length-map}
 use lib.Seq.{take-suc-set, drop-cons}
-use Rattle.std.proofs.Common.{Option, Some, None}
+use Rattle.std.proofs.Common.{Option, Some, None, IfSome}
+use Rattle.slices.proofs.TestLaws.{clash}
 use Rattle.paths.specs.declared.Spine.{Spine}
-use Rattle.paths.specs.declared.Spine.TheVariants.{Line}
+use Rattle.paths.specs.declared.Spine.TheVariants.{Line, Branch, Outside}
 use Rattle.spines.specs.Cells.{spine_of, row_of}
 use Rattle.spines.specs.declared.active.Line.{Line as ActiveLine}
 use Rattle.spines.specs.Table.{active_at, active_spine, active_row, line_of, cell_of, cells_of}
@@ -26,12 +27,12 @@ cells_set (x ∷ l) (suc i) a = ap (λ (r : List ℕ). cell_of x ∷ r) (cells_s
 
 -- ---- a cell's line, and a line's cell
 
-pub cell_says : (a : Option ActiveLine) → spine_of (cell_of a) ≡ active_spine a
+pub cell_says : (a : Option ActiveLine) → IfSome a (λ l. l.voice < 4) → spine_of (cell_of a) ≡ active_spine a
 unfolding cell_of
-cell_says None = cell_outside 0 refl
-cell_says (Some a) =
-    let v : ((a.part + 1) * 8 + a.voice) % 8 ≡ a.voice = omega arith in
-    cell_line ((a.part + 1) * 8 + a.voice) a.part (omega arith) (omega arith) ∙ ap (Line a.part) v
+cell_says None h = cell_outside 0 refl
+cell_says (Some a) h =
+    let v : ((a.part + 1) * 8 + a.voice) % 8 ≡ a.voice = omega (arith, h) in
+    cell_line ((a.part + 1) * 8 + a.voice) a.part (omega (arith, h)) (omega (arith, h)) ∙ ap (Line a.part) v
 
 -- part and voice of a cell of 16 bits
 pub line_bounds : (c : ℕ) {p v : ℕ} → c < 65536 → spine_of c ≡ Line p v → (p < 8191) × (v < 4)
@@ -73,3 +74,17 @@ filled_turn row spines {i} a inv h same e =
 pub active_drop : (l : List (Option ActiveLine)) (i : ℕ) → i < length l → active_row (drop i l) ≡ active_spine (active_at l i) ∷ active_row (drop (i + 1) l)
 unfolding active_row
 active_drop l i h = ap active_row (drop-cons l i _ h) ∙ ap (λ (k : ℕ). active_spine (active_at l i) ∷ active_row (drop k l)) (sym (add-one i))
+
+-- each voice of a row's table is one of a line's four, so that `cell_says` holds of each entry
+voice_low : (c : ℕ) (s : Spine) {p v : ℕ} → spine_of c ≡ s → Line p v ≡ line_of s → v < 4
+voice_low c (Line q w) {p} {v} e h = let o = of_line c e in let same : v ≡ w = cc in omega (arith, o.low, same)
+voice_low c (Branch q) e h = clash cc
+voice_low c Outside e h = clash cc
+
+pub table_low : (l : List (Option ActiveLine)) (row : List ℕ) (i : ℕ) → active_row l ≡ map line_of (row_of row) → IfSome (active_at l i) (λ a. a.voice < 4)
+unfolding active_row row_of
+table_low [] row i e = tt
+table_low (x ∷ l) [] i e = clash cc
+table_low (None ∷ l) (c ∷ row) zero e = tt
+table_low (Some a ∷ l) (c ∷ row) zero e = voice_low c (spine_of c) {p = a.part} {v = a.voice} refl cc
+table_low (x ∷ l) (c ∷ row) (suc i) e = table_low l row i cc

@@ -64,7 +64,7 @@ fn notify(token: TextToken, what: Code, tally: Tally, out: &mut [u8]) -> Tally
         at: token.offset,
         len: token.bytes.len() as u32,
     };
-    writing::notify(out, tally, what, token.line, token.column, piece)
+    writing::notify(out, tally, u8::from(what), token.line, token.column, piece)
 }
 
 // An ordinary interpretation in a line of a part.

@@ -7,6 +7,8 @@ use Rattle.interpretation.specs.Key.{mode_number}
 use Rattle.interpretation.specs.Meter.{symbol_number}
 use Rattle.sheet.specs.declared.Span.{Span}
 use Rattle.reading.specs.declared.Part.{Part}
+use Rattle.tandem.specs.declared.Setting.{Setting}
+use Rattle.tandem.specs.declared.Setting.TheVariants as setting
 use Rattle.reading.specs.Star.{barring, naming, shortening, moding, with_clef, with_key, with_meter, with_symbol, with_bar_tempo}
 
 -- the part after an interpretation, whose name, if it is one, stands at a span
@@ -20,3 +22,15 @@ changed (Tempo bpm) name p = barring p (with_bar_tempo p.current bpm)
 changed Name name p = naming p name
 changed ShortName name p = shortening p name
 changed (Mode mode) name p = moding p (mode_number mode)
+
+-- the part after a setting of any numbers, as the sheet has them
+abbrev pub set_by : Setting → Span → Part → Part
+set_by setting.Nothing name p = p
+set_by (setting.Clef clef) name p = barring p (with_clef p.current clef)
+set_by (setting.Key fifths) name p = barring p (with_key p.current fifths p.mode)
+set_by (setting.Meter n d) name p = barring p (with_meter p.current n d)
+set_by (setting.Symbol s) name p = barring p (with_symbol p.current s)
+set_by (setting.Tempo bpm) name p = barring p (with_bar_tempo p.current bpm)
+set_by setting.Name name p = naming p name
+set_by setting.ShortName name p = shortening p name
+set_by (setting.Mode mode) name p = moding p mode

@@ -8,7 +8,6 @@ ghost use Rattle.items.specs.Items.{items};
 ghost use Rattle.token.specs.Outcome.{note_pitches};
 ghost use Rattle.token.specs.Token.{articulations_of, signifiers_of};
 ghost use Rattle.lists.specs.Lists.{pitch_bytes, articulation_bytes};
-ghost use Rattle.notice.specs.Number.{number_of};
 ghost use Rattle.sheet.specs.Record.{NOTICE, span_of, record_bytes};
 ghost use Rattle.state.specs.Lay.{laid, behind};
 ghost use Rattle.writing.specs.Kept.{note_record, Alone, kept_records, after_kept, notice_of, signifiers_notice, counted};
@@ -150,20 +149,20 @@ pub fn keep(out: &mut [u8], tally: Tally, notice: Notice) -> Tally
     tally
 }
 
-// A notice on a line and a column, with the piece of the text that it preserves.
+// A notice of any number on a line and a column, with the piece of the text that it preserves.
 pub fn notify(
     out: &mut [u8],
     tally: Tally,
-    what: Code,
+    number: u8,
     line: u32,
     column: u16,
     piece: Span,
 ) -> Tally
-    ensures { (out.new ≡ laid out.old tally.at (kept_records tally (notice_of (number_of what) line column (span_of piece.at piece.len)) [])) × (result ≡ after_kept tally (notice_of (number_of what) line column (span_of piece.at piece.len)) []) }
+    ensures { (out.new ≡ laid out.old tally.at (kept_records tally (notice_of number line column (span_of piece.at piece.len)) [])) × (result ≡ after_kept tally (notice_of number line column (span_of piece.at piece.len)) []) }
 {
     let value = sheet::span_of(piece.at, piece.len);
     let notice = Notice {
-        number: u8::from(what),
+        number,
         column,
         line,
         value,

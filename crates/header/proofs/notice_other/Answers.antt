@@ -7,4 +7,4 @@ pub returns-then-is_kern : goal.returns-then-is_kern
 returns-then-is_kern c = other_kern _ _ _ _ _ _ (sym c.is_kern.ensures ∙ c.if-is_kern.true)
 
 pub returns : goal.returns
-returns c = other_told _ _ _ _ _ _ _ _ (sym c.is_kern.ensures ∙ c.if-is_kern.false) c.notify.ensures
+returns c = other_told _ _ _ _ _ _ _ _ (sym c.is_kern.ensures ∙ c.if-is_kern.false) (rw c.from.ensures at c.notify.ensures)

@@ -12,7 +12,7 @@ overflow_cast-spines c = let t = numbered_turn _ _ c.args.line.now (search (rule
 
 pub invariant_of-spines : goal.invariant_of-spines
 invariant_of-spines c = let t = numbered_turn _ _ c.args.line.now (search (rules, tests)) c.loop-i.yielded _ _ c.loop-i.yielded_by _ c.next.ensures.steps c.in-Some.is in
-    record { part_in = omega (arith, t.0, c.requires, c.loop-i.invariant.low); voice_in = omega arith }
+    record { room = omega (arith, t.0, c.requires, c.loop-i.invariant.low) }
 
 pub offset_bounds-spines-i : goal.offset_bounds-spines-i
 offset_bounds-spines-i c = let t = numbered_turn _ _ c.args.line.now (search (rules, tests)) c.loop-i.yielded _ _ c.loop-i.yielded_by _ c.next.ensures.steps c.in-Some.is in omega (arith, t.0, t.1.0, c.requires)

@@ -8,16 +8,16 @@ pub loop-i-init : goal.loop-i-init
 loop-i-init c = branching_first _ _ _ _
 
 pub loop-i-preserved-then-not-is_branch : goal.loop-i-preserved-then-not-is_branch
-loop-i-preserved-then-not-is_branch c = branching_on c.loop-i.invariant c.loop-i-test.true c.token_at-token.ensures c.active_at.ensures c.is_branch.ensures c.if-not-is_branch.true
+loop-i-preserved-then-not-is_branch c = branching_on c.loop-i.invariant c.loop-i-test.true c.token_at-token.ensures c.line_at.ensures c.is_branch.ensures c.if-not-is_branch.true
 
 pub returns-then-is_none : goal.returns-then-is_none
 returns-then-is_none c =
-    branching_done c.loop-i.invariant c.loop-i-test.true c.token_at-token.ensures c.active_at.ensures c.is_branch.ensures c.free_voice-voice.result c.if-not-is_branch.false c.free_voice-voice.ensures
+    branching_done c.loop-i.invariant c.loop-i-test.true c.token_at-token.ensures c.line_at.ensures c.is_branch.ensures c.free_voice-voice.result c.if-not-is_branch.false c.free_voice-voice.ensures
     (rw (sym c.unwrap_or.ensures) c.push.ensures) (search (rules, tests))
 
 pub loop-i-preserved : goal.loop-i-preserved
 loop-i-preserved c =
-    branching_turn c.loop-i.invariant c.loop-i-test.true c.token_at-token.ensures c.active_at.ensures c.is_branch.ensures c.free_voice-voice.result c.if-not-is_branch.false c.free_voice-voice.ensures
+    branching_turn c.loop-i.invariant c.loop-i-test.true c.token_at-token.ensures c.line_at.ensures c.is_branch.ensures c.free_voice-voice.result c.if-not-is_branch.false c.free_voice-voice.ensures
     (rw (sym c.unwrap_or.ensures) c.push.ensures) (search (rules, tests))
 
 pub returns : goal.returns

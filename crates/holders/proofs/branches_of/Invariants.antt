@@ -4,4 +4,4 @@ use Rattle.holders.proofs.PassLaws.{Branching}
 use Rattle.holders.proofs.branches_of.Given as goal
 
 abbrev pub invariant-loop-i : goal.invariant-loop-i
-invariant-loop-i l = Branching l.part l.header l.line l.table (listed l.initial.held) (listed l.held) l.from l.i
+invariant-loop-i l = Branching l.part l.header l.line l.row.cells.now (listed l.initial.held) (listed l.held) l.from l.i

@@ -12,12 +12,12 @@ loop-i-init c = lining_first _ _ _ _ c.empty-held.ensures
 
 pub loop-i-preserved : goal.loop-i-preserved
 loop-i-preserved c =
-    lining_turn c.loop-i.invariant c.loop-i-test.true c.token_at-token.ensures c.active_at.ensures
+    lining_turn c.loop-i.invariant c.loop-i-test.true c.token_at-token.ensures c.line_at.ensures
     (
     elim c.match-line_voice.branch [
-      | in-Some+then-carries w ↦ rw w.held-is (w.push.ensures ∙ step_carried c.args.part c.args.header c.loop-i.i (listed c.loop-i.held) c.loop-i.follows c.token_at-token.result.kind (active_spine c.active_at.result) w.in-Some.ensures (sym w.carries.ensures ∙ w.if-carries.true))
-      | in-Some+else-carries w ↦ rw w.held-is (step_ended c.args.part c.args.header c.loop-i.i (listed c.loop-i.held) c.loop-i.follows c.token_at-token.result.kind (active_spine c.active_at.result) (sym w.carries.ensures ∙ w.if-carries.false))
-      | in_default w ↦ rw w.held-is (step_other c.args.part c.args.header c.loop-i.i (listed c.loop-i.held) c.loop-i.follows c.token_at-token.result.kind (active_spine c.active_at.result) (λ v e. w.in_default.not-Some v (c.line_voice.ensures ∙ e)))
+      | in-Some+then-carries w ↦ rw w.held-is (w.push.ensures ∙ step_carried c.args.part c.args.header c.loop-i.i (listed c.loop-i.held) c.loop-i.follows c.token_at-token.result.kind (active_spine c.line_at.result) w.in-Some.ensures (sym w.carries.ensures ∙ w.if-carries.true))
+      | in-Some+else-carries w ↦ rw w.held-is (step_ended c.args.part c.args.header c.loop-i.i (listed c.loop-i.held) c.loop-i.follows c.token_at-token.result.kind (active_spine c.line_at.result) (sym w.carries.ensures ∙ w.if-carries.false))
+      | in_default w ↦ rw w.held-is (step_other c.args.part c.args.header c.loop-i.i (listed c.loop-i.held) c.loop-i.follows c.token_at-token.result.kind (active_spine c.line_at.result) (λ v e. w.in_default.not-Some v (c.line_voice.ensures ∙ e)))
     ]
     )
     (c.eq-follows.ensures ∙ join_same _)

@@ -8,5 +8,7 @@ use Rattle.notes.proofs.NoticeLaws.{noticed_by, notify_is}
 use Rattle.notes.proofs.notify_token.Goals as goal
 
 pub returns : goal.returns
-returns c = let value = span_of c.args.spot.at (length c.args.token.now) in
-    noticed_by c.args.tally (notice_of (number_of c.args.what) c.args.spot.line c.args.spot.column value) [] c.args.out.now _ (notify_is (number_of c.args.what) c.args.spot.line c.args.spot.column value) c.notify.ensures.1 c.notify.ensures.0
+returns c =
+    let value = span_of c.args.spot.at (length c.args.token.now) in
+    let w = rw c.from.ensures at c.notify.ensures in
+    noticed_by c.args.tally (notice_of (number_of c.args.what) c.args.spot.line c.args.spot.column value) [] c.args.out.now _ (notify_is (number_of c.args.what) c.args.spot.line c.args.spot.column value) w.1 w.0

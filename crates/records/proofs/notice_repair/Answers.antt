@@ -9,5 +9,5 @@ returns-in-None-clause-told c = no_repair_told c.args.repair c.args.line.number 
 
 pub returns-in-Some : goal.returns-in-Some
 returns-in-Some c =
-    let r = repair_told c.args.repair c.args.line.number c.args.line.offset c.args.line.bytes.now c.args.tally c.args.out.now c.repair_notice.ensures (ap (option_map number_of) c.in-Some.is) refl (rw c.span_of.ensures at c.notify.ensures) in
+    let r = repair_told c.args.repair c.args.line.number c.args.line.offset c.args.line.bytes.now c.args.tally c.args.out.now c.repair_notice.ensures (ap (option_map number_of) c.in-Some.is) refl (rw (c.from.ensures, c.span_of.ensures) at c.notify.ensures) in
     record { told = r.0; same = r.1 }

@@ -8,7 +8,7 @@ use Rattle.records.proofs.RecordLaws.{none_told, uneven_told, mixed_told, even_t
 use Rattle.records.proofs.read_record.Goals as goal
 
 pub returns-then-tally-eq0 : goal.returns-then-tally-eq0
-returns-then-tally-eq0 c = record { told = none_told c.args.parts.now c.requires c.args.line.bytes.now c.args.out.now c.args.line.number c.args.line.offset c.notify-noticed.result _ c.if-tally-eq0.true refl (rw c.span_of.ensures at c.notify-noticed.ensures); few = omega (arith, (subst (Same c.args.tally) (sym c.notify-noticed.ensures.1) (kept_same c.args.tally _ [])).parts, c.requires.ready.parts_few) }
+returns-then-tally-eq0 c = record { told = none_told c.args.parts.now c.requires c.args.line.bytes.now c.args.out.now c.args.line.number c.args.line.offset c.notify-noticed.result _ c.if-tally-eq0.true refl (rw (c.from.ensures, c.span_of.ensures) at c.notify-noticed.ensures); few = omega (arith, (subst (Same c.args.tally) (sym c.notify-noticed.ensures.1) (kept_same c.args.tally _ [])).parts, c.requires.ready.parts_few) }
 
 pub returns-in-Uneven : goal.returns-in-Uneven
 returns-in-Uneven c = record { told = uneven_told c.args.parts.now c.requires c.args.line.bytes.now c.args.out.now c.args.line.number c.args.line.offset c.if-tally-eq0.false c.repair_record.ensures c.in-Err.is c.in-Uneven.is; few = tt }

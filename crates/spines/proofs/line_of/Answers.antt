@@ -10,4 +10,4 @@ pub overflow_cast-result-in-Line : goal.overflow_cast-result-in-Line
 overflow_cast-result-in-Line c = let b = line_bounds c.args.cell (omega arith) (sym c.in-Line.ensures) in omega (arith, b.1)
 
 pub invariant_of-result : goal.invariant_of-result
-invariant_of-result c = let b = line_bounds c.args.cell (omega arith) (sym c.in-Line.ensures) in record { part_in = b.0; voice_in = b.1 }
+invariant_of-result c = let b = line_bounds c.args.cell (omega arith) (sym c.in-Line.ensures) in record { room = omega (arith, b.0, b.1) }
