@@ -13,9 +13,10 @@ use std::io::{self, BufRead, BufReader, Read};
 
 // The number that digits write, its last ten digits, below 2^32.
 fn number_of(digits: &[u8]) -> u32 {
-    let n = digits
-        .iter()
-        .fold(0u64, |n, digit| n % 1_000_000_000 * 10 + u64::from(digit % 16));
+    let n = digits.iter().fold(
+        0u64,
+        |n, digit| n % 1_000_000_000 * 10 + u64::from(digit % 16),
+    );
     (n % 4_294_967_296) as u32
 }
 
