@@ -17,13 +17,40 @@ use Rattle.sheet.specs.Record.{NOTE, note_bytes, record_bytes, records_bytes, pi
 use Rattle.sheet.proofs.NoteLaws.{note_length_lem}
 use Rattle.gap.specs.Next.{next_rest}
 use Rattle.gap.specs.Fill.{rest_note, Fill, more, fill_from, fill_hole, counted, records, rests_bytes, Filling, Leaves, Taken}
-use Rattle.gap.specs.Answer.{laid}
+use Rattle.gap.specs.Answer.{number_of, laid}
 use Rattle.gap.specs.Exact.{AddsUp, no_rest, one_more}
 use Rattle.gap.specs.declared.Rest.{Rest}
 use Rattle.gap.specs.declared.Hole.{Hole}
 use Rattle.gap.specs.declared.Refusal.{Refusal}
 use Rattle.gap.specs.declared.Refusal.TheVariants.{NoValue, Full}
 use Rattle.gap.proofs.ServeLaws.{Serves, Good, next_good}
+
+-- ---- why a hole is turned away
+
+-- by 14 or 15: by what is left of it or by the voice, never by a buffer
+abbrev pub Known : Fill → Type 0
+Known (Err e) = (14 ≤ number_of e) × (number_of e ≤ 15)
+Known (Ok ns) = Unit {0}
+
+known_more : (n : Note) (f : Fill) → Known f → Known (more n f)
+known_more n (Err e) h = h
+known_more n (Ok ns) h = tt
+
+known_by : (b : Bool) (next : Option Rest) (e : Refusal) (f : Rest → Fill) → Known (Err e) → ((r : Rest) → Known (f r))
+    → Known (cond b (Ok []) (elim next [
+      | None ↦ Err e
+      | Some rest ↦ f rest
+    ]))
+known_by true next e f none some = tt
+known_by false None e f none some = none
+known_by false (Some r) e f none some = some r
+
+pub fill_known : (free d ticks : ℕ) → Known (fill_from free d ticks)
+unfolding fill_from
+fill_known zero d ticks = known_by (eqb ticks 0) (next_rest d ticks) _ _ (omega arith, omega arith) (λ r. (omega arith, omega arith))
+fill_known (suc free) d ticks =
+    known_by (eqb ticks 0) (next_rest d ticks) _ _ (omega arith, omega arith)
+    (λ r. known_more (rest_note r) (fill_from free d (ticks - r.ticks)) (fill_known free d (ticks - r.ticks)))
 
 -- ---- one rest
 

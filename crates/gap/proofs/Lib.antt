@@ -3,6 +3,7 @@ pub mod SearchLaws
 pub mod ValueLaws
 pub mod ServeLaws
 pub mod LongaLaws
+pub mod PlainLaws
 pub mod FillLaws
 pub mod AnswerLaws
 pub mod Examples

@@ -1,8 +1,8 @@
 -- A hole longer than a longa begins with one: no value is as long as what is left.
-use Rattle.std.specs.Prelude.{Option, None, Some}
+use Rattle.std.specs.Prelude.{Option, None, Some, Ok, Err}
 use mathlib.Core.Path.{◌≡◌, refl, sym, ap, ◌∙◌}
-use Prim.Native.Nat.{ℕ, ◌*◌, ◌^◌, ◌<◌}
-use native.Mathlib.Nat.{mul-one, le-mul_of_pos_right}
+use Prim.Native.Nat.{ℕ, zero, suc, ◌+◌, ◌-◌, ◌*◌, ◌^◌, ◌≤◌, ◌<◌}
+use native.Mathlib.Nat.{mul-one, zero-mul, le-mul_of_pos_right}
 use native.Mathlib.Omega.{arith}
 use mathlib.Core.Bool.{Bool, false, cond}
 use lib.Dec.{eqb, leb}
@@ -11,7 +11,10 @@ use borrow.Author.Tests.{ne_eqb, le-leb}
 use Rattle.duration.specs.Duration.{gcd_of}
 use Rattle.gap.specs.Values.{ticks_of, tried, rest, in_tuplet, triplet_by, tuplet_by, plain_by}
 use Rattle.gap.specs.Next.{or_else, longest_from, longest, shortest_below, just, tuplet_of, next_rest}
+use Rattle.gap.specs.Fill.{Fill, rest_note, more, fill_from, counted}
 use Rattle.gap.specs.declared.Rest.{Rest}
+use Rattle.sheet.specs.declared.Note.{Note}
+use Rattle.gap.proofs.FillLaws.{fill_more}
 use Rattle.gap.proofs.ValueLaws.{Whole, ticks_whole}
 use Rattle.gap.proofs.SearchLaws.{longest_none, shortest_none, exact_none}
 
@@ -64,3 +67,27 @@ module _ (d ticks longa : ℕ) (is : ticks_of d 0 ≡ Some longa) (long : longa 
       ∙ ap (λ (b : Bool). or_else (cond b None (shortest_below (tuplet_by d ticks) 10)) (longest (plain_by d ticks))) (exact_none d ticks 10 0 (λ k a b. not_just k))
       ∙ ap (λ (x : Option Rest). or_else x (longest (plain_by d ticks))) (shortest_none (tuplet_by d ticks) 10 (λ k a. no_tuplet k))
       ∙ plain_first)
+
+-- ---- so many longas at once
+
+counted_more : (m : ℕ) (n : Note) (f : Fill) → counted m (more n f) ≡ counted (m + 1) f
+counted_more m n (Err e) = refl
+counted_more m n (Ok ns) = ap Ok (omega arith)
+
+module _ (d longa : ℕ) (is : ticks_of d 0 ≡ Some longa) where
+  -- what the rest of the hole comes to behind n longas
+  pub past_longas : (n m k room ticks : ℕ) → k ≡ m + n → n * longa < ticks → n ≤ room
+      → counted k (fill_from (room - n) d (ticks - n * longa)) ≡ counted m (fill_from room d ticks)
+  past_longas zero m k room ticks e long few =
+      let i : k ≡ m = omega arith in
+      let j : room - 0 ≡ room = omega arith in
+      let t : ticks - 0 * longa ≡ ticks = omega (arith, zero-mul longa) in
+      rw (i, j, t) refl
+  past_longas (suc n) m k room ticks e long few =
+      let times : suc n * longa ≡ longa + n * longa = omega arith in
+      let j : room - suc n ≡ room - 1 - n = omega arith in
+      let t : ticks - suc n * longa ≡ ticks - longa - n * longa = omega (arith, times) in
+      rw (j, t)
+      (past_longas n (m + 1) k (room - 1) (ticks - longa) (omega arith) (omega (arith, times, long)) (omega arith)
+      ∙ sym (counted_more m (rest_note (rest 0 0 0 longa)) (fill_from (room - 1) d (ticks - longa)))
+      ∙ sym (ap (counted m) (fill_more d ticks (λ z. omega arith) (sym (next_longa d ticks longa is (omega (arith, times, long)))) room (λ z. omega arith))))

@@ -1,14 +1,13 @@
 -- The searches over the ten values, as the chains and the loop go through them.
 use Rattle.std.specs.Prelude.{Option, None, Some, IfSome, IsTrue}
 use Rattle.std.specs.Option.{MatchOption, IsSomeAnd, option_map}
-use Rattle.std.specs.Bool.{MatchBool}
 use Rattle.std.specs.Fn.{Called}
 use Rattle.std.specs.Iterator.Adapters.{rev_steps, RevKeepsRuns}
 use Rattle.std.specs.declared.iter.Rev.{Rev}
 use Rattle.std.specs.declared.ops.Range.{Range}
 use Rattle.std.proofs.iter.runs.Sources.{range_runs, range_runs_back, nat_range_steps_back}
 use Rattle.std.proofs.iter.Yields.{nat_range_steps}
-use Rattle.std.specs.Iterator.Runs.{Run, SomeRun, ItemsCountUp, ItemsCountDown, AllItemsGive, AnyItemGives, IsFirstToGive, CallKeepsClosure}
+use Rattle.std.specs.Iterator.Runs.{Run, SomeRun, ItemsCountUp, ItemsCountDown, AllItemsGive, IsFirstToGive, CallKeepsClosure}
 use denote.Param.Members.{Mut}
 use mathlib.Core.Path.{◌≡◌, refl, sym, ap, subst, ◌∙◌}
 use Prim.Native.Nat.{ℕ, zero, suc, ◌+◌, ◌-◌, ◌≤◌, ◌<◌}
@@ -93,18 +92,18 @@ module _ {S F : Type 0} {steps : S → Option ℕ → S → Type 0} (g : Mut F (
         sym (longest_some by (sym (says h.0 (Some y) f (item_and (p.at h.0) (λ x. Called g f (x, tt) (Some y) f) (at_place h.0 h.1) first.0)).1) 10 0 (omega arith) (omega (arith, h.1, up.0))
         (λ k a b. sym (says k None f (item_and (p.at k) (λ x. Called g f (x, tt) None f) (at_place k (omega (arith, h.1))) (first.1 k b))).1))
 
-  module _ (down : ItemsCountDown p 0 10) where
-    pub shortest_found : (result : Option Rest) → Found result → result ≡ shortest_below by 10
+  module _ (n : ℕ) (down : ItemsCountDown p 0 n) where
+    pub shortest_found : (result : Option Rest) → Found result → result ≡ shortest_below by n
     shortest_found None h =
-        sym (shortest_none by 10 (λ k b.
-        let i : 10 - 1 - (9 - k) ≡ k = omega arith in
-        ap by (sym i) ∙ sym (says (10 - 1 - (9 - k)) None f (item_is (p.at (9 - k)) (λ x. Called g f (x, tt) None f) (down.3 (9 - k) (omega (arith, down.1 h.0))) (h.1 keeps (9 - k)))).1))
+        sym (shortest_none by n (λ k b.
+        let i : n - 1 - (n - 1 - k) ≡ k = omega arith in
+        ap by (sym i) ∙ sym (says (n - 1 - (n - 1 - k)) None f (item_is (p.at (n - 1 - k)) (λ x. Called g f (x, tt) None f) (down.3 (n - 1 - k) (omega (arith, down.1 h.0))) (h.1 keeps (n - 1 - k)))).1))
     shortest_found (Some y) h =
         let first = h.3 keeps in
-        sym (shortest_some by (sym (says (10 - 1 - h.0) (Some y) f (item_and (p.at h.0) (λ x. Called g f (x, tt) (Some y) f) (down.3 h.0 h.1) first.0)).1) 10 (omega arith)
+        sym (shortest_some by (sym (says (n - 1 - h.0) (Some y) f (item_and (p.at h.0) (λ x. Called g f (x, tt) (Some y) f) (down.3 h.0 h.1) first.0)).1) n (omega (arith, down.0, h.1))
         (λ k a b.
-        let i : 10 - 1 - (9 - k) ≡ k = omega arith in
-        ap by (sym i) ∙ sym (says (10 - 1 - (9 - k)) None f (item_and (p.at (9 - k)) (λ x. Called g f (x, tt) None f) (down.3 (9 - k) (omega (arith, h.1, a, b))) (first.1 (9 - k) (omega (arith, a, b))))).1))
+        let i : n - 1 - (n - 1 - k) ≡ k = omega arith in
+        ap by (sym i) ∙ sym (says (n - 1 - (n - 1 - k)) None f (item_and (p.at (n - 1 - k)) (λ x. Called g f (x, tt) None f) (down.3 (n - 1 - k) (omega (arith, h.1, a, b))) (first.1 (n - 1 - k) (omega (arith, a, b))))).1))
 
 -- the chain over the range itself
 module _ {F : Type 0} (g : Mut F (ℕ × Unit {0}) (Option Rest)) (f : F) (by : ℕ → Option Rest)
@@ -115,16 +114,16 @@ module _ {F : Type 0} (g : Mut F (ℕ × Unit {0}) (Option Rest)) (f : F) (by : 
   pub longest_is : SomeRun nat_range_steps ten (λ p. Found g f by says p result) → result ≡ longest by
   longest_is run = longest_found g f by says run.0 (subst (λ s. ItemsCountUp run.0 s.start s.end) run.1 (range_runs run.0 run.0.seen)) result run.2
 
-  pub shortest_is : {s : Rev (Range ℕ)} → RevKeepsRuns nat_range_steps_back ten s → SomeRun (rev_steps nat_range_steps_back) s (λ p. Found g f by says p result)
-      → result ≡ shortest_below by 10
-  shortest_is kept run =
+  pub shortest_is : (n : ℕ) {s : Rev (Range ℕ)} → RevKeepsRuns nat_range_steps_back (record { start = 0; end = n }) s
+      → SomeRun (rev_steps nat_range_steps_back) s (λ p. Found g f by says p result) → result ≡ shortest_below by n
+  shortest_is n kept run =
       let source = kept run.0 run.0.seen run.1 in
       let down = subst (λ s. ItemsCountDown source.0 s.start s.end) source.1 (range_runs_back source.0 source.0.seen) in
       let same = source.2 in
-      shortest_found g f by says run.0 (
+      shortest_found g f by says run.0 n (
         omega (arith, down.0, same.0.0),
         (λ w. omega (arith, down.1 (same.1 ∙ w), same.0.0)),
-        (λ k. subst (λ o. IfSome o (λ x. (x + k + 1 ≡ 10) × (0 ≤ x))) (same.0.2 k) (down.2 k)),
+        (λ k. subst (λ o. IfSome o (λ x. (x + k + 1 ≡ n) × (0 ≤ x))) (same.0.2 k) (down.2 k)),
         (λ k h. ap (option_map (λ y. y)) (sym (same.0.2 k)) ∙ down.3 k (omega (arith, h, same.0.0))),
       )
       result run.2
@@ -173,7 +172,7 @@ or_true : (b : Bool) → (b || true) ≡ true
 or_true true = refl
 or_true false = refl
 
-exact_some : (d ticks : ℕ) {i : ℕ} → just (ticks_of d i) ticks ≡ true → (n v : ℕ) → v ≤ i → i < v + n → is_exact d ticks n v ≡ true
+pub exact_some : (d ticks : ℕ) {i : ℕ} → just (ticks_of d i) ticks ≡ true → (n v : ℕ) → v ≤ i → i < v + n → is_exact d ticks n v ≡ true
 unfolding is_exact
 exact_some d ticks {i} e zero v low high = absurd (omega arith)
 exact_some d ticks {i} e (suc n) v low high = go (i - v) refl (λ later. exact_some d ticks e n (v + 1) later (omega arith))
@@ -183,27 +182,6 @@ exact_some d ticks {i} e (suc n) v low high = go (i - v) refl (λ later. exact_s
         let same : i ≡ v = omega arith in
         ap (λ (b : Bool). b || is_exact d ticks n (v + 1)) (sym (ap (λ (j : ℕ). just (ticks_of d j) ticks) same) ∙ e)
     go (suc k) z later = ap (λ (b : Bool). just (ticks_of d v) ticks || b) (later (omega arith)) ∙ or_true (just (ticks_of d v) ticks)
-
-module _ {F : Type 0} (g : Mut F (ℕ × Unit {0}) Bool) (f : F) (d ticks : ℕ)
-    (says : (x : ℕ) (r : Bool) (q : F) → Called g f (x, tt) r q → (q ≡ f) × (r ≡ just (ticks_of d x) ticks)) where
-  keeps_test : CallKeepsClosure g f
-  keeps_test a r q c = (says a.0 r q c).0
-
-  exact_by : (result : Bool) (p : Run nat_range_steps) → ItemsCountUp p 0 10
-      → MatchBool result (AnyItemGives p g f true) (IsTrue p.whole × AllItemsGive p g f false) → result ≡ is_exact d ticks 10 0
-  exact_by true p up h =
-      let found = h keeps_test in
-      sym (exact_some d ticks
-      (sym (says found.0 true f (item_and (p.at found.0) (λ x. Called g f (x, tt) true f) (up.3 found.0 found.1 ∙ ap Some (zero-add found.0)) found.2)).1)
-      10 0 (omega arith) (omega (arith, found.1, up.0)))
-  exact_by false p up h =
-      sym (exact_none d ticks 10 0 (λ k a b.
-      sym (says k false f (item_is (p.at k) (λ x. Called g f (x, tt) false f) (up.3 k (omega (arith, up.1 h.0)) ∙ ap Some (zero-add k)) (h.1 keeps_test k))).1))
-
-  pub exact_is : (result : Bool)
-      → SomeRun nat_range_steps (record { start = 0; end = 10 }) (λ p. MatchBool result (AnyItemGives p g f true) (IsTrue p.whole × AllItemsGive p g f false))
-      → result ≡ is_exact d ticks 10 0
-  exact_is result run = exact_by result run.0 (subst (λ s. ItemsCountUp run.0 s.start s.end) run.1 (range_runs run.0 run.0.seen)) run.2
 
 -- how the loop of `plain` goes
 pub ruleset searching = (search_past, search_turn, search_found)

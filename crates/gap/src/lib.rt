@@ -1,12 +1,12 @@
 #![tactic(auto)]
 
 // A hole of so many ticks, written as hidden rests.
-ghost use Rattle.std.specs.Prelude.{◌≡◌, ℕ, ◌-◌, ◌≤◌, ◌<◌, IfErr, OnOk, length};
+ghost use Rattle.std.specs.Prelude.{◌≡◌, ℕ, ◌+◌, ◌-◌, ◌≤◌, ◌<◌, IfErr, OnOk, length};
 ghost use Rattle.slices.specs.Store.{stored};
 ghost use Rattle.sheet.specs.Record.{note_bytes};
 ghost use Rattle.gap.specs.Values.{ticks_of, triplet_by, tuplet_by, plain_by};
-ghost use Rattle.gap.specs.Next.{longest, is_exact, tuplet_of, next_rest};
-ghost use Rattle.gap.specs.Fill.{rest_note, fill_from, counted, Filling, Taken};
+ghost use Rattle.gap.specs.Next.{or_else, longest, shortest_below, tuplet_of, next_rest};
+ghost use Rattle.gap.specs.Fill.{rest_note, fill_from, fill_hole, counted, Filling, Taken};
 ghost use Rattle.gap.specs.Answer.{number_of, figure_of, numbers_of, laid, gap_answer, gap_buffer};
 ghost use Rattle.gap.specs.Exact.{FilledWith};
 
@@ -150,21 +150,12 @@ impl Time {
         (0..10).find_map(|value| self.triplet_by(value))
     }
 
-    // Whether a value lasts just the ticks.
-    fn is_exact(self) -> bool
-        ensures { result ≡ is_exact self.divisions self.ticks 10 0 }
+    // The shortest value that serves in a tuplet, of so many, the longest values first.
+    fn tuplet(self, values: u8) -> Option<Rest>
+        requires { values ≤ 10 }
+        ensures { result ≡ shortest_below (tuplet_by self.divisions self.ticks) values }
     {
-        (0..10).any(|value| self.ticks_of(value) == Some(self.ticks))
-    }
-
-    // The shortest value that serves in a tuplet, where no value lasts just the ticks.
-    fn tuplet(self) -> Option<Rest>
-        ensures { result ≡ tuplet_of self.divisions self.ticks }
-    {
-        if self.is_exact() {
-            return None;
-        }
-        (0..10).rev().find_map(|value| self.tuplet_by(value))
+        (0..values).rev().find_map(|value| self.tuplet_by(value))
     }
 
     // The longest value that fits.
@@ -186,16 +177,29 @@ impl Time {
         Some(rest)
     }
 
+    // One tuplet, else the longest value that fits. That one is found first: it is the answer where it lasts just the ticks, and else a
+    // tuplet is of a longer one. A call: each walk then keeps its rest in registers.
+    #[inline(never)]
+    fn tuplet_or_plain(self) -> Option<Rest>
+        ensures { result ≡ or_else (tuplet_of self.divisions self.ticks) (longest (plain_by self.divisions self.ticks)) }
+    {
+        match self.plain() {
+            None => self.tuplet(10),
+            Some(rest) if rest.ticks == self.ticks => Some(rest),
+            Some(rest) => self.tuplet(rest.value).or(Some(rest)),
+        }
+    }
+
     // The next rest: a triplet, else one tuplet, else the longest value that fits.
+    #[inline(always)]
     fn search_rest(self) -> Option<Rest>
         ensures { result ≡ next_rest self.divisions self.ticks }
     {
-        self.triplet()
-            .or_else(|| self.tuplet())
-            .or_else(|| self.plain())
+        self.triplet().or_else(|| self.tuplet_or_plain())
     }
 
     // The same; of more ticks than a longa has, no value but the longa serves.
+    #[inline(always)]
     #[tactic(auto, using(crate::proofs::LongaLaws::next_longa))]
     fn next_rest(self) -> Option<Rest>
         ensures { result ≡ next_rest self.divisions self.ticks }
@@ -213,7 +217,26 @@ impl Time {
 }
 
 impl Hole {
-    // Takes the next rest out of the hole; None where it is filled.
+    // Takes out the longas that a hole of more ticks begins with, as many as its voice has room for; how many.
+    #[inline(always)]
+    fn take_longas(&mut self) -> usize
+        ensures same { counted result (fill_hole self.new) ≡ counted 0 (fill_hole self.old) }
+        ensures few { result + self.new.room ≡ self.old.room }
+    {
+        match self.left.ticks_of(0) {
+            Some(longa) if longa < self.left.ticks => {
+                let n = self.room.min((self.left.ticks - 1) / longa);
+                self.room -= n;
+                self.left.ticks -= n * longa;
+                n as usize
+            }
+            _ => 0,
+        }
+    }
+
+    // Takes the next rest out of the hole; None where it is filled. Inlined, as are the three above: a hole of 893 rests takes 27,000
+    // instructions so, and 61,000 where they are left to the compiler.
+    #[inline(always)]
     #[tactic(auto, using(crate::proofs::FillLaws::holes))]
     fn take(&mut self) -> Result<Option<Rest>, Refusal>
         ensures { Taken self.old self.new result }
@@ -233,11 +256,15 @@ impl Hole {
     }
 }
 
-// How many rests fill a hole.
+// How many rests fill a hole: one with no ticks none, and of the others the longas are counted at once.
+#[tactic(auto, using(crate::proofs::FillLaws::hole_done))]
 fn count_rests(mut hole: Hole) -> Result<usize, Refusal>
     ensures { result ≡ counted 0 (fill_from hole.room hole.left.divisions hole.left.ticks) }
 {
-    let mut n = 0;
+    if hole.left.ticks == 0 {
+        return Ok(0);
+    }
+    let mut n = hole.take_longas();
     while hole.take()?.is_some() {
         n += 1;
     }
