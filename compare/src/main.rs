@@ -159,15 +159,18 @@ fn try_cases(folder: &str, seed: u64, many: usize) -> ExitCode {
     ExitCode::SUCCESS
 }
 
-/// The most bytes that a file of requests or of answers has, so that `rt try` takes them.
-const MOST: usize = 900_000;
+/// The most bytes of the requests in a file: the programs read 65,536 bytes and no more.
+const ASKED: usize = 65_000;
+
+/// The most bytes of the answers beside them, so that `rt try` takes them.
+const ANSWERED: usize = 900_000;
 
 /// The same texts as lists of the program `texts`.
 fn try_lists(folder: &str, seed: u64, many: usize) -> ExitCode {
     let mut lists: Vec<(Vec<u8>, Vec<u8>)> = vec![Default::default()];
     for (_, text) in try_texts(seed, many) {
         let (request, answer) = (texts::request(&text), texts::answer(&text));
-        if lists.last().is_some_and(|list| list.0.len() + request.len() > MOST || list.1.len() + answer.len() > MOST) {
+        if lists.last().is_some_and(|list| list.0.len() + request.len() > ASKED || list.1.len() + answer.len() > ANSWERED) {
             lists.push(Default::default());
         }
         let list = lists.last_mut().unwrap();
@@ -175,8 +178,8 @@ fn try_lists(folder: &str, seed: u64, many: usize) -> ExitCode {
         list.1.extend(answer);
     }
     for (file, (list, answers)) in lists.iter().enumerate() {
-        std::fs::write(format!("{folder}/{file:03}"), list).unwrap();
-        std::fs::write(format!("{folder}/{file:03}.stdout"), answers).unwrap();
+        std::fs::write(format!("{folder}/{file:04}"), list).unwrap();
+        std::fs::write(format!("{folder}/{file:04}.stdout"), answers).unwrap();
     }
     ExitCode::SUCCESS
 }
@@ -186,12 +189,17 @@ fn try_requests(kind: &str, folder: &str) -> ExitCode {
     let cases: Vec<Case> = cases_of(kind).into_iter().flat_map(|(_, cases)| cases).collect();
     let mut rest = &cases[..];
     for file in 0.. {
-        let mut size = 0;
-        let many = rest.iter().take_while(|c| { size += c.request.len().max(c.answer.len()) + 1; size <= MOST }).count();
+        let (mut asked, mut answered) = (0, 0);
+        let fits = |c: &&Case| {
+            asked += c.request.len() + 1;
+            answered += c.answer.len() + 1;
+            asked <= ASKED && answered <= ANSWERED
+        };
+        let many = rest.iter().take_while(fits).count();
         let (here, behind) = rest.split_at(many);
         let lines = |of: &dyn Fn(&Case) -> &[u8]| -> Vec<u8> { here.iter().flat_map(|c| [of(c), b"\n"].concat()).collect() };
-        std::fs::write(format!("{folder}/{file:03}"), lines(&|c| &c.request)).unwrap();
-        std::fs::write(format!("{folder}/{file:03}.stdout"), lines(&|c| &c.answer)).unwrap();
+        std::fs::write(format!("{folder}/{file:04}"), lines(&|c| &c.request)).unwrap();
+        std::fs::write(format!("{folder}/{file:04}.stdout"), lines(&|c| &c.answer)).unwrap();
         rest = behind;
         if rest.is_empty() {
             break;
