@@ -39,6 +39,17 @@ whole_kept s some other =
     let e = last_kept s (length s - 1) (omega (arith, some)) other (λ k l m. absurd (omega (arith, l, m))) in
     omega (arith, some, e)
 
+-- nothing but one CR
+pub cr_alone : (s : List ℕ) → length s ≡ 1 → get_or s (length s - 1) 0 ≡ 13 → length (without_crs s) ≡ 0
+cr_alone s one cr = ap length (none_kept s (λ k l. let at : k ≡ length s - 1 = omega (arith, one, l) in rw at cr))
+
+-- one CR behind a byte that is none
+pub cr_dropped : (s : List ℕ) → 1 < length s → get_or s (length s - 1) 0 ≡ 13 → (get_or s (length s - 1 - 1) 0 ≡ 13 → ⊥)
+    → length (without_crs s) ≡ length s - 1
+cr_dropped s some cr other =
+    let e = last_kept s (length s - 1 - 1) (omega (arith, some)) other (λ k l m. let at : k ≡ length s - 1 = omega (arith, some, l, m) in rw at cr) in
+    omega (arith, some, e)
+
 -- cutting a line at the length of its content leaves the content
 pub content_take : (s : List ℕ) → take (length (without_crs s)) s ≡ without_crs s
 unfolding without_crs keep

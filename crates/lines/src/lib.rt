@@ -16,7 +16,7 @@ pub enum Kind {
     Data,
 }
 
-// The same of a line that ends with a CR. A call: inlined, its loop takes registers of the reader's.
+// The same of a line that ends with CRs. A call: inlined, its loop takes registers of the reader's.
 #[inline(never)]
 fn trimmed(line: &[u8]) -> usize
     ensures { (result ≡ length (without_crs line.now)) × (result ≤ length line.now) }
@@ -26,7 +26,7 @@ fn trimmed(line: &[u8]) -> usize
         .map_or(0, |last| last + 1)
 }
 
-// The length of a line without its trailing CRs.
+// The length of a line without its trailing CRs, of which it seldom has more than one.
 #[inline(always)]
 #[tactic(auto, using(crate::proofs::TrimLaws::whole_kept))]
 pub fn content(line: &[u8]) -> usize
@@ -38,6 +38,13 @@ pub fn content(line: &[u8]) -> usize
     }
     if line[n - 1] != b'\r' {
         return n;
+    }
+    let before = n - 1;
+    if before == 0 {
+        return 0;
+    }
+    if line[before - 1] != b'\r' {
+        return before;
     }
     trimmed(line)
 }
