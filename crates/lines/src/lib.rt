@@ -16,7 +16,7 @@ pub enum Kind {
     Data,
 }
 
-// The same of a line that ends with CRs. A call: inlined, its loop takes registers of the reader's.
+// The length of a line without its trailing CRs, where it has several. A call: inlined, its loop takes registers of the reader's.
 #[inline(never)]
 fn trimmed(line: &[u8]) -> usize
     ensures { (result ≡ length (without_crs line.now)) × (result ≤ length line.now) }
@@ -26,7 +26,7 @@ fn trimmed(line: &[u8]) -> usize
         .map_or(0, |last| last + 1)
 }
 
-// The length of a line without its trailing CRs, of which it seldom has more than one.
+// The length of a line without its trailing CRs.
 #[inline(always)]
 #[tactic(auto, using(crate::proofs::TrimLaws::whole_kept))]
 pub fn content(line: &[u8]) -> usize
