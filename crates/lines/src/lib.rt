@@ -1,7 +1,7 @@
 #![tactic(auto)]
 
 // A text as lines and tokens, and what a line or a token is.
-ghost use Rattle.std.specs.Prelude.{◌≡◌, ◌+◌, ◌≤◌, true, length, get_or};
+ghost use Rattle.std.specs.Prelude.{◌≡◌, ◌+◌, ◌-◌, ◌≤◌, ◌<◌, true, length, get_or};
 ghost use Rattle.lines.specs.Lines.{piece_end, without_crs, kind_of};
 ghost use Rattle.lines.specs.Tokens.{tokens_of, is_null, is_kern, is_exclusive, is_star, is_empty};
 
@@ -16,11 +16,20 @@ pub enum Kind {
     Data,
 }
 
-// The length of a line without its trailing CRs, where it has several. A call: inlined, its loop takes registers of the reader's.
+// The length of a line without its trailing CRs, where it ends with one. A call: inlined, its loop takes registers of the reader's.
 #[inline(never)]
+#[tactic(auto, using(crate::proofs::TrimLaws::cr_alone, crate::proofs::TrimLaws::cr_dropped))]
 fn trimmed(line: &[u8]) -> usize
+    requires { (0 < length line.now) × (get_or line.now (length line.now - 1) 0 ≡ 13) }
     ensures { (result ≡ length (without_crs line.now)) × (result ≤ length line.now) }
 {
+    let before = line.len() - 1;
+    if before == 0 {
+        return 0;
+    }
+    if line[before - 1] != b'\r' {
+        return before;
+    }
     line.iter()
         .rposition(|&x| x != b'\r')
         .map_or(0, |last| last + 1)
@@ -38,13 +47,6 @@ pub fn content(line: &[u8]) -> usize
     }
     if line[n - 1] != b'\r' {
         return n;
-    }
-    let before = n - 1;
-    if before == 0 {
-        return 0;
-    }
-    if line[before - 1] != b'\r' {
-        return before;
     }
     trimmed(line)
 }
