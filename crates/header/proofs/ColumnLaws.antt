@@ -32,7 +32,7 @@ use Rattle.spines.specs.declared.active.Line.{Line as ActiveLine}
 use Rattle.spines.proofs.CellLaws.{row_append}
 use Rattle.spines.proofs.TableLaws.{cells_length, cells_set, cell_says}
 use Rattle.reading.specs.Header.{fresh_parts, any_kern}
-use Rattle.header.specs.Columns.{HeaderTable}
+use Rattle.header.specs.Columns.{HeaderTable, Voiced}
 
 -- ---- a column
 pub column_kern : (t : List ℕ) (p : ℕ) (a : ActiveLine) → a.part ≡ p → a.voice ≡ 0 → is_kern t ≡ true
@@ -159,6 +159,17 @@ filling_past {ts} {spines} {n} {p} inv h =
           ∙ inv.same;
       parts = omega (arith, inv.fresh, ap (λ (l : List (List ℕ)). length (fresh_parts p (map is_kern l))) none);
     }
+
+-- each line that is written has voice 0
+pub voiced_first : (k : ℕ) → Voiced (active_at (replicate 256 None) k)
+voiced_first k = subst Voiced (sym (none_at 256 k)) tt
+
+pub voiced_turn : (spines : List (Option ActiveLine)) (i k : ℕ) (a : Option ActiveLine) → Voiced a → Voiced (active_at spines k) → Voiced (active_at (set spines i a) k)
+voiced_turn [] i k a new old = old
+voiced_turn (x ∷ spines) zero zero a new old = new
+voiced_turn (x ∷ spines) zero (suc k) a new old = old
+voiced_turn (x ∷ spines) (suc i) zero a new old = old
+voiced_turn (x ∷ spines) (suc i) (suc k) a new old = voiced_turn spines i k a new old
 
 -- ---- the row: i cells are written
 pub cells_at : (l : List (Option ActiveLine)) (i : ℕ) → get_or (cells_of l) i 0 ≡ cell_of (active_at l i)

@@ -1,5 +1,5 @@
 -- The header's table of active spines; a column outside kern.
-use Rattle.std.specs.Prelude.{Option, ◌≡◌, ℕ, ◌≤◌, List, map, cond, length, take}
+use Rattle.std.specs.Prelude.{Option, IfSome, ◌≡◌, ℕ, ◌≤◌, List, map, cond, length, take}
 use Rattle.lines.specs.Tokens.{is_kern}
 use Rattle.paths.specs.Text.{header_row}
 use Rattle.spines.specs.Cells.{row_of}
@@ -19,3 +19,7 @@ pub record HeaderTable (ts : List (List ℕ)) (spines : List (Option Line)) (p :
   pub few : p ≤ length ts
   pub row : row_of (take (length ts) (cells_of spines)) ≡ header_row (map is_kern ts)
   pub parts : p ≡ length (fresh_parts 0 (map is_kern ts))
+
+-- the line of a column, where it has one, has voice 0
+abbrev pub Voiced : Option Line → Type 0
+Voiced a = IfSome a (λ l. l.voice ≡ 0)

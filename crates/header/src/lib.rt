@@ -6,14 +6,14 @@ ghost use Rattle.lines.specs.Tokens.{tokens_of, is_kern, is_exclusive};
 ghost use Rattle.paths.specs.Text.{header_row};
 ghost use Rattle.repair.specs.Repair.{each};
 ghost use Rattle.spines.specs.Cells.{row_of};
-ghost use Rattle.spines.specs.Table.{cells_of};
+ghost use Rattle.spines.specs.Table.{active_at, cells_of};
 ghost use Rattle.reading.specs.State.{goes};
 ghost use Rattle.reading.specs.declared.Part.{Part};
 ghost use Rattle.reading.specs.Notices.{placed};
 ghost use Rattle.reading.specs.Header.{read_reference, notice_others, fresh_parts, read_header};
 ghost use Rattle.state.specs.Ready.{Few};
 ghost use Rattle.state.specs.View.{state_of, landed, told, told_row};
-ghost use Rattle.header.specs.Columns.{notice_other, HeaderTable};
+ghost use Rattle.header.specs.Columns.{notice_other, HeaderTable, Voiced};
 ghost use Rattle.state.specs.Counts.{Same};
 
 use notice::Code;
@@ -79,7 +79,8 @@ struct Table {
 // The table of the header's tokens.
 fn table_of(line: &[u8]) -> Table
     requires { length (tokens_of line.now) ≤ 256 }
-    ensures { HeaderTable (tokens_of line.now) result.spines result.parts }
+    ensures table { HeaderTable (tokens_of line.now) result.spines result.parts }
+    ensures voices { (k : ℕ) → Voiced (active_at result.spines k) }
 {
     let mut spines = [None; 256];
     let mut parts = 0;
@@ -206,4 +207,23 @@ pub fn read_header(
     };
     let told = notice_others(line, begun, out);
     Ok(told)
+}
+
+#[cfg(test)]
+mod tests {
+    use super::*;
+    use std::test::Fail;
+
+    // A column outside kern has no line, and each line of a part has voice 0.
+    #[test]
+    fn lines_of_a_header(rt: HostRuntime) -> Result<(), Fail> {
+        let line = b"**kern\t**dynam\t**kern";
+        assert!(rt; lines::token_count(line) <= 256);
+        let table = table_of(line);
+        assert_eq!(rt; table.parts, 2);
+        assert_eq!(rt; table.spines[0], Some(Line { part: 0, voice: 0 }));
+        assert_eq!(rt; table.spines[1], None);
+        assert_eq!(rt; table.spines[2], Some(Line { part: 1, voice: 0 }));
+        Ok(())
+    }
 }
