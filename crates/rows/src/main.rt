@@ -3,20 +3,29 @@
 // Answers with the row that star records make of a header, a request and an answer to a line. A request is `V`, a letter for each header
 // column (`k` kern, `o` another), and the records, each behind a `|`. The answer has part and voice of each column, `-` outside
 // kern, or the number of the question that stops the reading, 17 with its column. 65,536 bytes are read at most.
+ghost use Rattle.std.specs.Prelude.{◌≡◌, IfSome};
+
 use paths::Spine;
 use spines::Line;
 use std::io::{self, BufRead, BufReader, Read};
 use voices::{Rows, Stop};
+
+// The first line of a part, in a header's column whose letter is `k`.
+fn first_line(letter: u8, part: u8) -> Option<Line>
+    ensures { IfSome result (λ l. (l.part ≡ part) × (l.voice ≡ 0)) }
+{
+    (letter == b'k').then_some(Line {
+        part: u16::from(part),
+        voice: 0,
+    })
+}
 
 // The header's row, by the letters of its columns.
 fn header_row(letters: &[u8]) -> [u16; 512] {
     let mut row = [0; 512];
     let mut part = 0u8;
     for (cell, letter) in row.iter_mut().zip(letters) {
-        let line = (*letter == b'k').then_some(Line {
-            part: u16::from(part),
-            voice: 0,
-        });
+        let line = first_line(*letter, part);
         *cell = spines::cell_at(&[line], 0);
         part = part.wrapping_add(u8::from(line.is_some()));
     }
@@ -69,4 +78,22 @@ fn main(rt: HostRuntime) -> io::Result<()> {
         println!(rt; "")?;
     }
     Ok(())
+}
+
+#[cfg(test)]
+mod tests {
+    use super::*;
+    use std::test::Fail;
+
+    // Two columns of kern about one that isn't: each line has voice 0, and a cell of its own.
+    #[test]
+    fn lines_of_a_header(rt: HostRuntime) -> Result<(), Fail> {
+        assert_eq!(rt; first_line(b'k', 1), Some(Line { part: 1, voice: 0 }));
+        assert_eq!(rt; first_line(b'o', 1), None);
+        let row = header_row(b"kok");
+        assert_eq!(rt; row[0], 8);
+        assert_eq!(rt; row[1], 0);
+        assert_eq!(rt; row[2], 16);
+        Ok(())
+    }
 }
