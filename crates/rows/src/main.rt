@@ -3,16 +3,17 @@
 // Answers with the row that star records make of a header, a request and an answer to a line. A request is `V`, a letter for each header
 // column (`k` kern, `o` another), and the records, each behind a `|`. The answer has part and voice of each column, `-` outside
 // kern, or the number of the question that stops the reading, 17 with its column. 65,536 bytes are read at most.
-ghost use Rattle.std.specs.Prelude.{◌≡◌, IfSome};
+ghost use Rattle.std.specs.Prelude.{◌≡◌, cond, eqb};
+ghost use Rattle.spines.specs.Table.{active_spine};
 
 use paths::Spine;
 use spines::Line;
 use std::io::{self, BufRead, BufReader, Read};
 use voices::{Rows, Stop};
 
-// The first line of a part, in a header's column whose letter is `k`.
+// The line of a header's column: the first of the part where the letter is `k`, else none.
 fn first_line(letter: u8, part: u8) -> Option<Line>
-    ensures { IfSome result (λ l. (l.part ≡ part) × (l.voice ≡ 0)) }
+    ensures { active_spine result ≡ cond (eqb letter 107) (Spine.Line part 0) Spine.Outside }
 {
     (letter == b'k').then_some(Line {
         part: u16::from(part),
